@@ -7,15 +7,15 @@ use Rattle.emulated_boards.specs.Boards.{BoardState}
 use Rattle.campaign_inputs.specs.Begin.{IsAsMade}
 use Rattle.first_boots.specs.FirstBoot.{IsAsMade as IsFresh, IsFirstShown, first_boot, listed_from, shown_by}
 use Rattle.first_boots.proofs.FirstBoots.{boot_next, first_shown}
-use Rattle.update_log.specs.CoreAfter.{IsNext}
+use Rattle.update_log.specs.Legal.{IsNext}
 use Rattle.fw_facts.specs.declared.seen.Seen.{Seen}
 use Rattle.history_keeper.specs.declared.row.Row.{Row}
 use Rattle.history_keeper.specs.Histories.{IsHistory}
 use Rattle.update_log.specs.declared.event.Event.{Event}
 use Rattle.update_log.specs.declared.facts.BootPlan.{BootPlan}
 use Rattle.update_log.specs.declared.facts.Facts.{Facts}
-use Rattle.update_log.specs.Core.{Core, Stands}
-use Rattle.update_log.specs.Known.{rows as known_rows}
+use Rattle.core_state.specs.Core.{Core, Stands}
+use Rattle.update_log.specs.Known.{basis_of, rows as known_rows}
 use Rattle.update_log.specs.Pasts.{past_of}
 use Rattle.update_plans.specs.Plans.{Scene, first_bad, scene}
 use Rattle.campaign_plans.specs.declared.first_plan.FirstPlan.{FirstPlan}
@@ -30,10 +30,10 @@ can_first : (facts : Facts) (rows : List Row) (tag : List ℕ) (boots : List Boo
     → length shown ≡ length facts.sheets → All IsFirstShown shown → CanBePlanned facts rows tag (first_log boots shown)
 can_first facts rows tag [] shown h count fine = inl refl
 can_first facts rows tag (boot ∷ boots) shown h count fine =
-    let next : IsNext facts rows [] (first_boot boot shown) = boot_next facts rows boot [] shown (listed_from boot 0 shown) refl refl count fine in
+    let next : IsNext (basis_of facts rows) [] (first_boot boot shown) = boot_next (basis_of facts rows) boot [] shown (listed_from boot 0 shown) refl refl count fine in
     inr (record {
-      campaign = next.0;
-      facts_are = next.1;
+      first = next.0;
+      plans = next.1;
       legal = next.2;
       history = h;
       booted = omega arith;
@@ -56,9 +56,9 @@ as_many boards n e = length-map boards shown_by ∙ e
 
 -- What the plan over a state is, told of the boots.
 pub is_first_plan : (facts : Facts) (shown : List Seen) (boots : List BootPlan) (rows : List Row) (tag : List ℕ) (first : FirstPlan)
-    → Stands facts rows first.state → first.state.log ≡ first_log boots shown → first.plan.tag ≡ tag
+    → Stands (basis_of facts rows) first.state → first.state.log ≡ first_log boots shown → first.plan.tag ≡ tag
     → first.plan.steps ≡ plan_after facts rows tag (past_of first.state.log) → length first.plan.steps ≤ 8192
-    → first_bad (scene facts rows 1 tag) 1 first.plan.steps (past_of first.state.log) ≡ None → IsFirstPlan facts shown boots rows tag first
+    → first_bad (scene (basis_of facts rows) 1 tag) 1 first.plan.steps (past_of first.state.log) ≡ None → IsFirstPlan facts shown boots rows tag first
 is_first_plan facts shown boots rows tag first stands log tagged steps few good =
     let same : past_of first.state.log ≡ first_log boots shown = ap past_of log ∙ past_of_first boots shown in
     record {
@@ -67,7 +67,7 @@ is_first_plan facts shown boots rows tag first stands log tagged steps few good 
       tag_is = tagged;
       steps_are = steps ∙ ap (plan_after facts rows tag) same;
       few = few;
-      good = subst (λ (past : List Event). first_bad (scene facts rows 1 tag) 1 first.plan.steps past ≡ None) same good;
+      good = subst (λ (past : List Event). first_bad (scene (basis_of facts rows) 1 tag) 1 first.plan.steps past ≡ None) same good;
     }
 
 -- Boards that are as made are so for the first boot.
@@ -80,11 +80,11 @@ unfolding first_bad
 none_bad s past = refl
 
 -- A state that stands for that log has the rows before it.
-pub rows_first : (facts : Facts) (rows : List Row) (boots : List BootPlan) (shown : List Seen) (core : Core) → Stands facts rows core → core.log ≡ first_log boots shown → core.rows ≡ rows
+pub rows_first : (facts : Facts) (rows : List Row) (boots : List BootPlan) (shown : List Seen) (core : Core) → Stands (basis_of facts rows) core → core.log ≡ first_log boots shown → core.rows ≡ rows
 rows_first facts rows boots shown core stands log =
-    stands.rows ∙ ap (λ (past : List Event). known_rows facts rows past) (ap past_of log ∙ past_of_first boots shown) ∙ at boots
+    stands.rows ∙ ap (λ (past : List Event). known_rows (basis_of facts rows) past) (ap past_of log ∙ past_of_first boots shown) ∙ at boots
   where
-    at : (bs : List BootPlan) → known_rows facts rows (first_log bs shown) ≡ rows
+    at : (bs : List BootPlan) → known_rows (basis_of facts rows) (first_log bs shown) ≡ rows
     at [] = refl
     at (boot ∷ bs) = refl
 
@@ -96,23 +96,23 @@ can_be_planned_over facts rows own tag own_tag boots boards log same tagged is h
     subst (λ (rs : List Row). CanBePlanned facts rs own_tag (past_of log)) (sym same)
     (can_be_planned facts rows own_tag boots (map shown_by boards) log is h (as_many boards (length facts.sheets) count) (made_fine boards made))
 
-pub stands_over : (facts : Facts) (rows : List Row) (core : Core) → core.rows ≡ rows → Stands facts rows core → Stands facts core.rows core
-stands_over facts rows core same stands = subst (λ (rs : List Row). Stands facts rs core) (sym same) stands
+pub stands_over : (facts : Facts) (rows : List Row) (core : Core) → core.rows ≡ rows → Stands (basis_of facts rows) core → Stands (basis_of facts core.rows) core
+stands_over facts rows core same stands = subst (λ (rs : List Row). Stands (basis_of facts rs) core) (sym same) stands
 
 pub is_first_plan_over : (facts : Facts) (shown : List Seen) (boots : List BootPlan) (rows : List Row) (tag : List ℕ) (first : FirstPlan)
-    → first.state.rows ≡ rows → Stands facts rows first.state → first.state.log ≡ first_log boots shown → first.plan.tag ≡ tag
+    → first.state.rows ≡ rows → Stands (basis_of facts rows) first.state → first.state.log ≡ first_log boots shown → first.plan.tag ≡ tag
     → first.plan.steps ≡ plan_after facts first.state.rows tag (past_of first.state.log) → length first.plan.steps ≤ 8192
-    → first_bad (scene facts first.state.rows 1 tag) 1 first.plan.steps (past_of first.state.log) ≡ None → IsFirstPlan facts shown boots rows tag first
+    → first_bad (scene (basis_of facts first.state.rows) 1 tag) 1 first.plan.steps (past_of first.state.log) ≡ None → IsFirstPlan facts shown boots rows tag first
 is_first_plan_over facts shown boots rows tag first same stands log tagged steps few good =
     is_first_plan facts shown boots rows tag first stands log tagged
     (steps ∙ ap (λ (rs : List Row). plan_after facts rs tag (past_of first.state.log)) same)
     few
-    (subst (λ (rs : List Row). first_bad (scene facts rs 1 tag) 1 first.plan.steps (past_of first.state.log) ≡ None) same good)
+    (subst (λ (rs : List Row). first_bad (scene (basis_of facts rs) 1 tag) 1 first.plan.steps (past_of first.state.log) ≡ None) same good)
 
 pub good_over : (facts : Facts) (shown : List Seen) (boots : List BootPlan) (rows : List Row) (tag : List ℕ) (first : FirstPlan) → first.state.rows ≡ rows → IsFirstPlan facts shown boots rows tag first
-    → first_bad (scene facts first.state.rows 1 first.plan.tag) 1 first.plan.steps (past_of first.state.log) ≡ None
+    → first_bad (scene (basis_of facts first.state.rows) 1 first.plan.tag) 1 first.plan.steps (past_of first.state.log) ≡ None
 good_over facts shown boots rows tag first same is =
-    ap (λ (rs : List Row). first_bad (scene facts rs 1 first.plan.tag) 1 first.plan.steps (past_of first.state.log)) same
-    ∙ ap (λ (t : List ℕ). first_bad (scene facts rows 1 t) 1 first.plan.steps (past_of first.state.log)) is.tag_is
-    ∙ ap (λ (past : List Event). first_bad (scene facts rows 1 tag) 1 first.plan.steps past) (ap past_of is.log ∙ past_of_first boots shown)
+    ap (λ (rs : List Row). first_bad (scene (basis_of facts rs) 1 first.plan.tag) 1 first.plan.steps (past_of first.state.log)) same
+    ∙ ap (λ (t : List ℕ). first_bad (scene (basis_of facts rows) 1 t) 1 first.plan.steps (past_of first.state.log)) is.tag_is
+    ∙ ap (λ (past : List Event). first_bad (scene (basis_of facts rows) 1 tag) 1 first.plan.steps past) (ap past_of is.log ∙ past_of_first boots shown)
     ∙ is.good

@@ -10,6 +10,7 @@ use Rattle.history_keeper.specs.declared.row.Row.{Row}
 use Rattle.device_list.specs.declared.selector.Selector.{Selector}
 use Rattle.release_catalogue.specs.Lookup.{Chosen, all_releases}
 use Rattle.update_log.specs.Verdicts.{is_release}
+use Rattle.update_log.specs.Known.{basis_of}
 use Rattle.update_log.specs.declared.facts.Facts.{Facts}
 use Rattle.update_log.specs.declared.request.Request.{Request}
 use Rattle.update_plans.specs.Plans.{Scene, no_flags, release_at, request_of, scene}
@@ -50,7 +51,7 @@ asked_same s tag number step version chosen t v =
     ap (λ (x : List ℕ). asked_for x number step version) (sym t) ∙ ap (asked_for s.tag number step) (sym v)
 
 pub install_put : (s : Scene) (facts : Facts) (tag : List ℕ) (number : ℕ) (step : PlanStep) (version : List ℕ) (items new : List Item) (asked : Request)
-    → s.facts ≡ facts → s.tag ≡ tag → Some version ≡ found_in facts step → asked ≡ asked_for tag number step version
+    → s.basis.facts ≡ facts → s.tag ≡ tag → Some version ≡ found_in facts step → asked ≡ asked_for tag number step version
     → new ≡ items ++ Item.Install asked ∷ [] → new ≡ items ++ install_of s number step
 install_put s facts tag number step version items new asked f t found is put =
     install_some s number step (release_at s step.release) version items new asked
@@ -59,7 +60,7 @@ install_put s facts tag number step version items new asked f t found is put =
     put
 
 pub install_unput : (s : Scene) (facts : Facts) (number : ℕ) (step : PlanStep) (items : List Item)
-    → s.facts ≡ facts → None ≡ found_in facts step → items ≡ items ++ install_of s number step
+    → s.basis.facts ≡ facts → None ≡ found_in facts step → items ≡ items ++ install_of s number step
 install_unput s facts number step items f found =
     install_none s number step (release_at s step.release) items (ap (λ (x : Facts). found_in x step) f ∙ sym found)
 
@@ -94,7 +95,7 @@ installs_step s listed steps i step old new e lt here so_far put =
 
 -- the scene counts by its facts and its tag alone
 pub installs_same : (facts : Facts) (rows other : List Row) (client : ℕ) (tag : List ℕ) (number : ℕ) (steps : List PlanStep)
-    → installs_from (scene facts other client tag) number steps ≡ installs_from (scene facts rows client tag) number steps
+    → installs_from (scene (basis_of facts other) client tag) number steps ≡ installs_from (scene (basis_of facts rows) client tag) number steps
 installs_same facts rows other client tag number [] = refl
 installs_same facts rows other client tag number (step ∷ steps) =
-    ap (λ (items : List Item). install_of (scene facts rows client tag) number step ++ items) (installs_same facts rows other client tag (number + 1) steps)
+    ap (λ (items : List Item). install_of (scene (basis_of facts rows) client tag) number step ++ items) (installs_same facts rows other client tag (number + 1) steps)

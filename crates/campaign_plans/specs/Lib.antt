@@ -4,7 +4,7 @@ pub mod Updating
 pub use Rattle.outer_traits.specs.Faults
 pub use Rattle.outer_traits.specs.Sinks
 pub use Rattle.history_keeper.specs.Histories
-pub use Rattle.update_log.specs.Core
+pub use Rattle.core_state.specs.Core
 pub use Rattle.update_log.specs.Known
 pub use Rattle.update_log.specs.Pasts
 pub use Rattle.first_boots.specs.FirstBoot

@@ -7,7 +7,7 @@ use Rattle.fw_facts.specs.declared.view.DeviceView.{DeviceView}
 use Rattle.history_keeper.specs.declared.row.Row.{Row}
 use Rattle.update_log.specs.declared.facts.BootPlan.{BootPlan}
 use Rattle.update_log.specs.declared.facts.Facts.{Facts}
-use Rattle.update_log.specs.Known.{views}
+use Rattle.update_log.specs.Known.{basis_of, views}
 use Rattle.update_plans.specs.Choosing.{version_at}
 use Rattle.update_plans.specs.Plans.{has_id}
 use Rattle.update_plans.specs.declared.plan.PlanStep.{PlanStep}
@@ -36,4 +36,4 @@ plan_text facts views steps = count_line (length steps) ++ step_lines facts view
 
 -- the plan of these boots' first, of boards that show this
 abbrev pub plan_output : Facts → List Seen → List BootPlan → List Row → List ℕ → List ℕ
-plan_output facts shown boots rows tag = plan_text facts (views facts rows (first_log boots shown)) (first_steps facts shown boots rows tag)
+plan_output facts shown boots rows tag = plan_text facts (views (basis_of facts rows) (first_log boots shown)) (first_steps facts shown boots rows tag)

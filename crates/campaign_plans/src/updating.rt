@@ -8,6 +8,7 @@ ghost use Rattle.update_plans.specs.Plans.{scene};
 ghost use Rattle.campaign_inputs.specs.Begin.{CanBegin};
 ghost use Rattle.campaign_plans.specs.FirstPlans.{first_steps};
 ghost use Rattle.campaign_plans.specs.Updating.{Plays, first_alone, install_of, installs_from, one_script};
+ghost use Rattle.update_log.specs.Known.{basis_of};
 
 use crate::first_plan::{FirstPlan, plan_checked};
 use client_scripts::Item;
@@ -31,7 +32,7 @@ pub fn updated(
     requires history { IsHistory rows.now }
     requires tag { IsTag tag.now }
     ensures { IfOk result (λ made. Plays
-        (installs_from (scene campaign.facts rows.now 1 tag.now) 1 (first_steps campaign.facts (map shown_by campaign.boards.items) campaign.boots rows.now tag.now))
+        (installs_from (scene (basis_of campaign.facts rows.now) 1 tag.now) 1 (first_steps campaign.facts (map shown_by campaign.boards.items) campaign.boots rows.now tag.now))
         campaign made) }
 {
     let items = first_installs(alloc, &campaign, rows, tag)?;
@@ -49,7 +50,7 @@ fn first_installs(
     requires history { IsHistory rows.now }
     requires tag { IsTag tag.now }
     ensures { IfOk result (λ items. items.items ≡
-        installs_from (scene campaign.now.facts rows.now 1 tag.now) 1 (first_steps campaign.now.facts (map shown_by campaign.now.boards.items) campaign.now.boots rows.now tag.now)) }
+        installs_from (scene (basis_of campaign.now.facts rows.now) 1 tag.now) 1 (first_steps campaign.now.facts (map shown_by campaign.now.boards.items) campaign.now.boots rows.now tag.now)) }
 {
     let first = plan_checked(alloc, campaign, rows, tag)?;
     let items = script_of(alloc, &campaign.facts, &first.plan)?;
@@ -60,7 +61,7 @@ fn first_installs(
 fn script_of(alloc: Global, facts: &Facts, plan: &Plan) -> Result<Vec<Item>, NoMemory>
     requires tag { IsTag plan.now.tag }
     requires few { length plan.now.steps ≤ 8192 }
-    ensures { IfOk result (λ items. items.items ≡ installs_from (scene facts.now [] 1 plan.now.tag) 1 plan.now.steps) }
+    ensures { IfOk result (λ items. items.items ≡ installs_from (scene (basis_of facts.now []) 1 plan.now.tag) 1 plan.now.steps) }
 {
     let mut items = Vec::new(alloc);
     for (index, step) in plan.steps.items().iter().enumerate() {
@@ -79,7 +80,7 @@ fn put_install(
 ) -> Result<(), NoMemory>
     requires tag { IsTag tag.now }
     requires few { number ≤ 8192 }
-    ensures { OnOk result (items.new.items ≡ items.old.items ++ install_of (scene facts.now [] 1 tag.now) number step.now) }
+    ensures { OnOk result (items.new.items ≡ items.old.items ++ install_of (scene (basis_of facts.now []) 1 tag.now) number step.now) }
 {
     match version_at(facts, step.release) {
         Some(version) => {

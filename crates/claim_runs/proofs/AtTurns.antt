@@ -49,40 +49,40 @@ module _ (name : Name) (entry : ℕ) (pass : PassView Entry) where
   may-start op parts r n =
       let k = r.seen_so in (
         k.l,
-        subst (λ (x : ℕ). StartAllowed name.facts name.opening (past_seen pass.seen) pass.number x op k.l) r.entry_is
-            (claim-start name.facts name.first name.opening (past_seen pass.seen) pass.number parts k.number k.l op k.runs n),
+        subst (λ (x : ℕ). StartAllowed name.basis (past_seen pass.seen) pass.number x op k.l) r.entry_is
+            (claim-start name.basis name.first (past_seen pass.seen) pass.number parts k.number k.l op k.runs n),
       )
 
   pub may-end : (op : Op) (answer : Result ⊤ BoardFault) (now : Parts) (b : BoardState) → StepToEnd name entry op answer pass now → b ≡ now.board → EndsOwn name pass.number entry op answer b pass.seen
   may-end op answer now b s e =
       let k = s.runs.seen_so in
       let c = k.runs in
-      let ends : StepEnds name.facts name.first name.opening (past_seen pass.seen) pass.number s.before.entry op answer k.number now.board =
-      step-ends name.facts name.first name.opening (past_seen pass.seen) pass.number s.before k.number k.l op answer now.board k.runs s.left in
+      let ends : StepEnds name.basis name.first (past_seen pass.seen) pass.number s.before.entry op answer k.number now.board =
+      step-ends name.basis name.first (past_seen pass.seen) pass.number s.before k.number k.l op answer now.board k.runs s.left in
       let own : IsOwn (past_seen pass.seen) pass.number s.before.entry k.l = record { live = c.live; client_is = c.client_is } in
       record {
         l = k.l;
         number = k.number;
         own = subst (λ (x : ℕ). IsOwn (past_seen pass.seen) pass.number x k.l) s.runs.entry_is own;
-        ends = subst (λ (y : BoardState). StepEnds name.facts name.first name.opening (past_seen pass.seen) pass.number entry op answer k.number y) (sym e)
-            (subst (λ (x : ℕ). StepEnds name.facts name.first name.opening (past_seen pass.seen) pass.number x op answer k.number now.board) s.runs.entry_is ends);
+        ends = subst (λ (y : BoardState). StepEnds name.basis name.first (past_seen pass.seen) pass.number entry op answer k.number y) (sym e)
+            (subst (λ (x : ℕ). StepEnds name.basis name.first (past_seen pass.seen) pass.number x op answer k.number now.board) s.runs.entry_is ends);
       }
 
   pub may-finish : (parts : Parts) (b : BoardState) (payload : SealedBytes) → RunsFor name entry None pass parts → next_step parts.trace ≡ None → b ≡ parts.board → payload ≡ parts.payload → MayFinish name pass.number entry b payload.count pass.seen
   may-finish parts b payload r n f g =
       let k = r.seen_so in
-      let home : ComesHome name.facts name.first name.opening (past_seen pass.seen) pass.number parts.entry k.number k.l [] parts.board parts.payload.count =
-      claim-home name.facts name.first name.opening (past_seen pass.seen) pass.number parts k.number k.l k.runs in
-      let d = claim-done name.facts name.first name.opening (past_seen pass.seen) pass.number parts k.number k.l k.runs n in
+      let home : ComesHome name.basis name.first (past_seen pass.seen) pass.number parts.entry k.number k.l [] parts.board parts.payload.count =
+      claim-home name.basis name.first (past_seen pass.seen) pass.number parts k.number k.l k.runs in
+      let d = claim-done name.basis name.first (past_seen pass.seen) pass.number parts k.number k.l k.runs n in
       record {
         l = k.l;
         number = k.number;
         closed = d.0;
-        comes = subst (λ (x : ℕ). ComesHome name.facts name.first name.opening (past_seen pass.seen) pass.number x k.number k.l [] b payload.count) r.entry_is
-            (subst (λ (y : BoardState). ComesHome name.facts name.first name.opening (past_seen pass.seen) pass.number parts.entry k.number k.l [] y payload.count) (sym f)
-            (subst (λ (q : SealedBytes). ComesHome name.facts name.first name.opening (past_seen pass.seen) pass.number parts.entry k.number k.l [] parts.board q.count) (sym g) home));
+        comes = subst (λ (x : ℕ). ComesHome name.basis name.first (past_seen pass.seen) pass.number x k.number k.l [] b payload.count) r.entry_is
+            (subst (λ (y : BoardState). ComesHome name.basis name.first (past_seen pass.seen) pass.number parts.entry k.number k.l [] y payload.count) (sym f)
+            (subst (λ (q : SealedBytes). ComesHome name.basis name.first (past_seen pass.seen) pass.number parts.entry k.number k.l [] parts.board q.count) (sym g) home));
         planned = subst (λ (y : BoardState). HasPlan name.plans k.number y) (sym f) k.planned;
-        done = subst (λ (x : ℕ). IsDone name.facts name.opening (past_seen pass.seen) x d.0) r.entry_is d.1;
+        done = subst (λ (x : ℕ). IsDone name.basis (past_seen pass.seen) x d.0) r.entry_is d.1;
       }
 
   -- The board may come home between steps, and behind a plugin's step.
@@ -93,21 +93,21 @@ module _ (name : Name) (entry : ℕ) (pass : PassView Entry) where
         number = k.number;
         l = k.l;
         tail = [];
-        comes = subst (λ (x : ℕ). ComesHome name.facts name.first name.opening (past_seen pass.seen) pass.number x k.number k.l [] parts.board parts.payload.count) r.entry_is
-            (claim-home name.facts name.first name.opening (past_seen pass.seen) pass.number parts k.number k.l k.runs);
+        comes = subst (λ (x : ℕ). ComesHome name.basis name.first (past_seen pass.seen) pass.number x k.number k.l [] parts.board parts.payload.count) r.entry_is
+            (claim-home name.basis name.first (past_seen pass.seen) pass.number parts k.number k.l k.runs);
         planned = k.planned;
       }
 
   pub home-within : (op : Op) (answer : Result ⊤ BoardFault) (now : Parts) → StepToEnd name entry op answer pass now → HomeSeen name pass.number entry now.board now.payload.count pass.seen
   home-within op answer now s =
       let k = s.runs.seen_so in
-      let h = step-home name.facts name.first name.opening (past_seen pass.seen) pass.number s.before k.number k.l op answer now.board k.runs s.left in
+      let h = step-home name.basis name.first (past_seen pass.seen) pass.number s.before k.number k.l op answer now.board k.runs s.left in
       record {
         number = k.number;
         l = k.l;
         tail = h.0;
-        comes = subst (λ (x : ℕ). ComesHome name.facts name.first name.opening (past_seen pass.seen) pass.number x k.number k.l h.0 now.board now.payload.count) s.runs.entry_is
-            (subst (λ (q : SealedBytes). ComesHome name.facts name.first name.opening (past_seen pass.seen) pass.number s.before.entry k.number k.l h.0 now.board q.count) (sym s.noted.payload) h.1);
+        comes = subst (λ (x : ℕ). ComesHome name.basis name.first (past_seen pass.seen) pass.number x k.number k.l h.0 now.board now.payload.count) s.runs.entry_is
+            (subst (λ (q : SealedBytes). ComesHome name.basis name.first (past_seen pass.seen) pass.number s.before.entry k.number k.l h.0 now.board q.count) (sym s.noted.payload) h.1);
         planned = step-planned name.plans k.number op s.before.entry (payload_image s.before.payload) s.before.board answer now.board s.left k.planned;
       }
 
@@ -115,7 +115,7 @@ module _ (name : Name) (entry : ℕ) (pass : PassView Entry) where
 
 only-home : (name : Name) (client entry : ℕ) (b : BoardState) (blocks : ℕ) (met : List Entry) → IsLogOf name met → HomeSeen name client entry b blocks met → HasOnly (past_seen met) client entry
 only-home name client entry b blocks met l h =
-    only-so name.facts name.first name.opening (past_seen met) client entry h.l l.history l.legal h.comes.live h.comes.client_is
+    only-so name.basis name.first (past_seen met) client entry h.l l.history l.legal h.comes.live h.comes.client_is
 
 module _ {did : List Entry → List Entry → Type 0} (name : Name) (lock : LockId) (entry : ℕ) (old new : PassView Entry) (p : IsPass lock name old) (same : new.number ≡ old.number) (t : Took name did old new) where
   -- A step was started.
@@ -127,42 +127,42 @@ module _ {did : List Entry → List Entry → Type 0} (name : Name) (lock : Lock
       record {
         number = k.number;
         l = k.l;
-        runs = subst (λ (w : List Event). ClaimRuns name.facts name.first name.opening w old.number parts k.number k.l (Some op)) (sym (past-added old.number (Event.Start old.number parts.entry op) t.met new.seen added))
-            (claim-started name.facts name.first name.opening (past_seen t.met) old.number parts k.number k.l op k.runs a.0);
+        runs = subst (λ (w : List Event). ClaimRuns name.basis name.first w old.number parts k.number k.l (Some op)) (sym (past-added old.number (Event.Start old.number parts.entry op) t.met new.seen added))
+            (claim-started name.basis name.first (past_seen t.met) old.number parts k.number k.l op k.runs a.0);
         planned = k.planned;
       } in
       record { entry_is = r.entry_is; seen_so = subst (λ (n : ℕ). RunsSeen name n parts (Some op) new.seen) (sym same) now }
 
   -- A step was ended.
   pub ended : (op : Op) (answer : Result ⊤ BoardFault) (now : Parts) (b : BoardState) → StepToEnd name entry op answer old now → b ≡ now.board
-      → AddsOn old.number (Event.End old.number entry op answer (new_marks name.facts name.opening (past_seen old.seen) entry b.journal) (view_of b.condition)) t.met new.seen → RunsFor name entry None new now
+      → AddsOn old.number (Event.End old.number entry op answer (new_marks name.basis (past_seen old.seen) entry b.journal) (view_of b.condition)) t.met new.seen → RunsFor name entry None new now
   ended op answer now b s e a =
       let n : ℕ = old.number in
       let k = runs-stay name n old.seen t.met p.log t.meets s.before (Some op) s.runs.seen_so in
-      let marks : new_marks name.facts name.opening (past_seen t.met) entry b.journal ≡ new_marks name.facts name.opening (past_seen old.seen) entry b.journal =
+      let marks : new_marks name.basis (past_seen t.met) entry b.journal ≡ new_marks name.basis (past_seen old.seen) entry b.journal =
       marks-met name n old.seen t.met entry op answer b p.log t.meets (may-end name entry old op answer now b s e) in
-      let met : Adds n (Event.End n entry op answer (new_marks name.facts name.opening (past_seen t.met) entry b.journal) (view_of b.condition)) t.met new.seen =
+      let met : Adds n (Event.End n entry op answer (new_marks name.basis (past_seen t.met) entry b.journal) (view_of b.condition)) t.met new.seen =
       subst (λ (ms : List Mark). Adds n (Event.End n entry op answer ms (view_of b.condition)) t.met new.seen) (sym marks) a.1 in
-      let shown : Adds n (Event.End n entry op answer (new_marks name.facts name.opening (past_seen t.met) entry now.board.journal) (view_of now.board.condition)) t.met new.seen =
-      subst (λ (y : BoardState). Adds n (Event.End n entry op answer (new_marks name.facts name.opening (past_seen t.met) entry y.journal) (view_of y.condition)) t.met new.seen) e met in
-      let event : Event = Event.End n s.before.entry op answer (new_marks name.facts name.opening (past_seen t.met) s.before.entry now.board.journal) (view_of now.board.condition) in
+      let shown : Adds n (Event.End n entry op answer (new_marks name.basis (past_seen t.met) entry now.board.journal) (view_of now.board.condition)) t.met new.seen =
+      subst (λ (y : BoardState). Adds n (Event.End n entry op answer (new_marks name.basis (past_seen t.met) entry y.journal) (view_of y.condition)) t.met new.seen) e met in
+      let event : Event = Event.End n s.before.entry op answer (new_marks name.basis (past_seen t.met) s.before.entry now.board.journal) (view_of now.board.condition) in
       let added : Adds n event t.met new.seen =
-      subst (λ (x : ℕ). Adds n (Event.End n x op answer (new_marks name.facts name.opening (past_seen t.met) x now.board.journal) (view_of now.board.condition)) t.met new.seen) (sym s.runs.entry_is) shown in
+      subst (λ (x : ℕ). Adds n (Event.End n x op answer (new_marks name.basis (past_seen t.met) x now.board.journal) (view_of now.board.condition)) t.met new.seen) (sym s.runs.entry_is) shown in
       let now_so : RunsSeen name n now None new.seen =
       record {
         number = k.number;
         l = k.l;
-        runs = subst (λ (w : List Event). ClaimRuns name.facts name.first name.opening w n now k.number k.l None) (sym (past-added n event t.met new.seen added))
-            (claim-ended name.facts name.first name.opening (past_seen t.met) n s.before k.number k.l op answer now a.0 k.runs s.left s.noted);
+        runs = subst (λ (w : List Event). ClaimRuns name.basis name.first w n now k.number k.l None) (sym (past-added n event t.met new.seen added))
+            (claim-ended name.basis name.first (past_seen t.met) n s.before k.number k.l op answer now a.0 k.runs s.left s.noted);
         planned = step-planned name.plans k.number op s.before.entry (payload_image s.before.payload) s.before.board answer now.board s.left k.planned;
       } in
       record { entry_is = s.noted.entry ∙ s.runs.entry_is; seen_so = subst (λ (i : ℕ). RunsSeen name i now None new.seen) (sym same) now_so }
 
   pub ended-gained : (op : Op) (answer : Result ⊤ BoardFault) (now b : BoardState) → b ≡ now
-      → AddsOn old.number (Event.End old.number entry op answer (new_marks name.facts name.opening (past_seen old.seen) entry b.journal) (view_of b.condition)) t.met new.seen
+      → AddsOn old.number (Event.End old.number entry op answer (new_marks name.basis (past_seen old.seen) entry b.journal) (view_of b.condition)) t.met new.seen
       → (told : List Mark) × Gained (Event.End old.number entry op answer told (view_of now.condition) ∷ []) old new
   ended-gained op answer now b e a =
-      let ms : List Mark = new_marks name.facts name.opening (past_seen old.seen) entry b.journal in (
+      let ms : List Mark = new_marks name.basis (past_seen old.seen) entry b.journal in (
         ms,
         subst (λ (y : BoardState). Gained (Event.End old.number entry op answer ms (view_of y.condition) ∷ []) old new) e
             (gained-event {did = did} name (Event.End old.number entry op answer ms (view_of b.condition)) old new same t a.1),

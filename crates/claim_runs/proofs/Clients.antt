@@ -34,7 +34,7 @@ held-as n blocks request pending h e f k =
     a ∙ b ∙ d
 
 -- An ask that was answered with a hold leaves that hold, whichever row that was put off it is for.
-pub hold-asked : (name : Name) (n : ℕ) (request : Request) (pending : Option ℕ) (h : Hold) (met log : List Entry) → IsHoldFor name.facts n request pending h
+pub hold-asked : (name : Name) (n : ℕ) (request : Request) (pending : Option ℕ) (h : Hold) (met log : List Entry) → IsHoldFor name.basis.facts n request pending h
     → Adds n (Event.Ask n request pending (AskAnswer.Hold h.blocks.count h.ticket.release)) met log → hold (past_seen log) n ≡ Some (held_by h.ticket h.blocks.count)
 hold-asked name n request pending h met log is a =
     let event : Event = Event.Ask n request pending (AskAnswer.Hold h.blocks.count h.ticket.release) in
@@ -50,10 +50,10 @@ module _ {did : List Entry → List Entry → Type 0} (name : Name) (lock : Lock
 
   -- What it met.
   pub free-met : IsFree (past_seen old.seen) old.number → IsFree (past_seen t.met) old.number
-  free-met f = free-stays name.facts name.first name.opening old.number (past_seen old.seen) (past_seen t.met) (stays name old.number old.seen t.met p.log t.meets) f
+  free-met f = free-stays name.basis name.first old.number (past_seen old.seen) (past_seen t.met) (stays name old.number old.seen t.met p.log t.meets) f
 
   pub hold-met : (held : Held) → hold (past_seen old.seen) old.number ≡ Some held → hold (past_seen t.met) old.number ≡ Some held
-  hold-met held h = hold-stays name.facts name.first name.opening old.number (past_seen old.seen) (past_seen t.met) (stays name old.number old.seen t.met p.log t.meets) ∙ h
+  hold-met held h = hold-stays name.basis name.first old.number (past_seen old.seen) (past_seen t.met) (stays name old.number old.seen t.met p.log t.meets) ∙ h
 
   -- A turn that put an event behind the log which changes neither holds nor live entries, and one that put
   -- none there.
@@ -78,7 +78,7 @@ module _ {did : List Entry → List Entry → Type 0} (name : Name) (lock : Lock
       free-now (subst (λ (w : List Event). IsFree w old.number) (sym (past-added old.number Event.Cut t.met new.seen c.1)) (record { hold = m.hold; live = m.live }))
 
   -- An ask that was answered with a hold.
-  pub ask-holds : (request : Request) (h : Hold) → IsHoldFor name.facts old.number request None h → AddsOn old.number (Event.Ask old.number request None (AskAnswer.Hold h.blocks.count h.ticket.release)) t.met new.seen
+  pub ask-holds : (request : Request) (h : Hold) → IsHoldFor name.basis.facts old.number request None h → AddsOn old.number (Event.Ask old.number request None (AskAnswer.Hold h.blocks.count h.ticket.release)) t.met new.seen
       → hold (past_seen new.seen) new.number ≡ Some (held_by h.ticket h.blocks.count)
   ask-holds request h is a = ap (λ (i : ℕ). hold (past_seen new.seen) i) same ∙ hold-asked name old.number request None h t.met new.seen is a.1
 
@@ -88,7 +88,7 @@ module _ {did : List Entry → List Entry → Type 0} (name : Name) (lock : Lock
   hold-gone held event hs ls h a =
       let n : ℕ = old.number in
       let met : hold (past_seen t.met) n ≡ Some held = hold-met held h in
-      let none : list_any (λ (l : LiveEntry). l.client == n) (live (past_seen t.met)) ≡ false = held-free name.facts name.first name.opening (past_seen t.met) n held t.meets.log.history t.meets.log.legal met in
+      let none : list_any (λ (l : LiveEntry). l.client == n) (live (past_seen t.met)) ≡ false = held-free name.basis name.first (past_seen t.met) n held t.meets.log.history t.meets.log.legal met in
       free-now
       (subst (λ (w : List Event). IsFree w n) (sym (past-added n event t.met new.seen a))
       (record {

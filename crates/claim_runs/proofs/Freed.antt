@@ -4,7 +4,6 @@ use Rattle.std.specs.Prelude.{Option, Some, None, ◌==◌, find, filter}
 use Rattle.std.specs.List.{AllByRecursion, list_any}
 use Rattle.std.proofs.lemmas.Bool.{eqb-true}
 use Rattle.fw_facts.specs.declared.seen.Seen.{Seen}
-use Rattle.history_keeper.specs.declared.row.Row.{Row}
 use Rattle.history_keeper.specs.declared.row.RowState.{RowState}
 use Rattle.history_keeper.specs.Histories.{IsHistory}
 use Rattle.update_log.proofs.Lists.{All-find, by_test, eqb-self, find-filter_none}
@@ -12,13 +11,13 @@ use Rattle.update_log.proofs.MarksKept.{any-many, filter-fewer, find-many, how_m
 use Rattle.update_log.specs.Holding.{blocks_fetched, blocks_fetched_if, hold, holds, live, live_entry, without_entry}
 use Rattle.update_log.specs.Legal.{Allowed, IsFree, IsLegal, ResumeFetched}
 use Rattle.update_log.specs.Once.{how_many}
-use Rattle.update_log.specs.Shows.{Campaign}
+use Rattle.update_log.specs.Shows.{campaign_on, Campaign}
+use Rattle.update_log.specs.Known.{Basis}
 use Rattle.update_log.specs.declared.answer.ClaimAnswer.{ClaimAnswer}
 use Rattle.update_log.specs.declared.answer.ResumeAnswer.{ResumeAnswer}
 use Rattle.update_log.specs.declared.event.Back.{Back}
 use Rattle.update_log.specs.declared.event.Event.{Event}
 use Rattle.update_log.specs.declared.event.Stored.{Stored}
-use Rattle.update_log.specs.declared.facts.Facts.{Facts}
 use Rattle.update_log.specs.declared.live.Held.{Held}
 use Rattle.update_log.specs.declared.live.LiveEntry.{LiveEntry}
 use Rattle.update_log.specs.declared.refusal.FetchNote.{FetchNote}
@@ -66,28 +65,28 @@ held-none past client held (l ∷ entries) h a =
     let bad : Some held ≡ None = sym h ∙ none in cc)
     (λ t. rw t rest)
 
-resume-held : (facts : Facts) (opening : List Row) (past : List Event) (entry : ℕ) (fetched : Option FetchNote) → ResumeFetched facts opening past entry fetched ResumeAnswer.Begun → (held : Held) × (hold past 0 ≡ Some held)
-resume-held facts opening past entry (Some note) r = (r.0, r.1)
-resume-held facts opening past entry None r = absurd r.2
+resume-held : (basis : Basis) (past : List Event) (entry : ℕ) (fetched : Option FetchNote) → ResumeFetched basis past entry fetched ResumeAnswer.Begun → (held : Held) × (hold past 0 ≡ Some held)
+resume-held basis past entry (Some note) r = (r.0, r.1)
+resume-held basis past entry None r = absurd r.2
 
-each-step : (c : Campaign) (opening : List Row) (past : List Event) (event : Event) → IsHistory opening → IsLegal c opening past → Allowed c opening past event → OneEach past → OneEach (event ∷ past)
-each-step c opening past (Event.Boot number time limit found boards) v l a k = λ client. omega arith
-each-step c opening past (Event.Claim client request fetched (ClaimAnswer.Entry entry)) v l a k =
-    let o = out-once c opening past v l in
+each-step : (c : Campaign) (past : List Event) (event : Event) → IsHistory c.basis.opening → IsLegal c past → Allowed c past event → OneEach past → OneEach (event ∷ past)
+each-step c past (Event.Boot number time limit found boards) v l a k = λ client. omega arith
+each-step c past (Event.Claim client request fetched (ClaimAnswer.Entry entry)) v l a k =
+    let o = out-once c past v l in
     pushed (live past) (record { client = client; entry = entry; blocks = blocks_fetched fetched }) k (held-none past client a.0 (live past) a.1.held_is o.apart)
-each-step c opening past (Event.Resume client entry fetched ResumeAnswer.Begun stored) v l a k =
-    let o = out-once c opening past v l in
+each-step c past (Event.Resume client entry fetched ResumeAnswer.Begun stored) v l a k =
+    let o = out-once c past v l in
     let r = a.1 in
-    let h = resume-held c.facts opening past entry fetched r.fetched_is in
+    let h = resume-held c.basis past entry fetched r.fetched_is in
     let none : of_client 0 (live past) ≡ 0 = held-none past 0 h.0 (live past) h.1 o.apart in
     pushed (live past) (record { client = client; entry = entry; blocks = blocks_fetched_if fetched }) k (subst (λ (n : ℕ). of_client n (live past) ≡ 0) (sym r.client_is) none)
-each-step c opening past (Event.Finish client entry state stored) v l a k = fewer (live past) entry k
-each-step c opening past (Event.GiveBack client (Back.Entry entry)) v l a k = fewer (live past) entry k
-each-step c opening past _ v l a k = k
+each-step c past (Event.Finish client entry state stored) v l a k = fewer (live past) entry k
+each-step c past (Event.GiveBack client (Back.Entry entry)) v l a k = fewer (live past) entry k
+each-step c past _ v l a k = k
 
-one-each : (c : Campaign) (opening : List Row) (past : List Event) → IsHistory opening → IsLegal c opening past → OneEach past
-one-each c opening [] v l = λ client. omega arith
-one-each c opening (event ∷ past) v l = each-step c opening past event v l.0 l.2 (one-each c opening past v l.0)
+one-each : (c : Campaign) (past : List Event) → IsHistory c.basis.opening → IsLegal c past → OneEach past
+one-each c [] v l = λ client. omega arith
+one-each c (event ∷ past) v l = each-step c past event v l.0 l.2 (one-each c past v l.0)
 
 -- Where one element passes at most, none is left without it.
 none-passes : {X : Type 0} (q : X → Bool) (xs : List X) → how_many q xs ≡ 0 → list_any q xs ≡ false
@@ -120,18 +119,18 @@ pub record HasOnly (past : List Event) (client entry : ℕ) : Type 0 where
   pub no_hold : hold past client ≡ None
   pub no_other : list_any (λ l. l.client == client) (without_entry entry (live past)) ≡ false
 
-has-only : (c : Campaign) (opening : List Row) (past : List Event) (client entry : ℕ) (l : LiveEntry) → IsHistory opening → IsLegal c opening past → live_entry past entry ≡ Some l → l.client ≡ client → HasOnly past client entry
-has-only c opening past client entry l v legal h own =
-    let o = out-once c opening past v legal in
+has-only : (c : Campaign) (past : List Event) (client entry : ℕ) (l : LiveEntry) → IsHistory c.basis.opening → IsLegal c past → live_entry past entry ≡ Some l → l.client ≡ client → HasOnly past client entry
+has-only c past client entry l v legal h own =
+    let o = out-once c past v legal in
     let apart : hold past l.client ≡ None = All-find (λ (x : LiveEntry). hold past x.client ≡ None) (λ (x : LiveEntry). x.entry == entry) (live past) l o.apart h in
     let mine : (l.client == client) ≡ true = ap (λ (n : ℕ). n == client) own ∙ eqb-self client in
     record {
       no_hold = subst (λ (n : ℕ). hold past n ≡ None) own apart;
-      no_other = none-left (λ (x : LiveEntry). x.entry == entry) (λ (x : LiveEntry). x.client == client) (live past) l h mine (one-each c opening past v legal client);
+      no_other = none-left (λ (x : LiveEntry). x.entry == entry) (λ (x : LiveEntry). x.client == client) (live past) l h mine (one-each c past v legal client);
     }
 
-pub only-so : (facts : Facts) (first : List Seen) (opening : List Row) (past : List Event) (client entry : ℕ) (l : LiveEntry) → IsHistory opening → IsLegalSo facts first opening past → live_entry past entry ≡ Some l → l.client ≡ client → HasOnly past client entry
-only-so facts first opening past client entry l v (c, f, s, legal) h own = has-only c opening past client entry l v legal h own
+pub only-so : (basis : Basis) (first : List Seen) (past : List Event) (client entry : ℕ) (l : LiveEntry) → IsHistory basis.opening → IsLegalSo basis first past → live_entry past entry ≡ Some l → l.client ≡ client → HasOnly past client entry
+only-so basis first past client entry l v (plans, legal) h own = has-only (campaign_on basis first plans) past client entry l v legal h own
 
 -- So it has nothing out once that entry was finished or given back.
 pub finish-frees : (past : List Event) (client entry : ℕ) (state : RowState) (stored : Stored) → HasOnly past client entry → IsFree (Event.Finish client entry state stored ∷ past) client
@@ -141,7 +140,7 @@ pub back-frees : (past : List Event) (client entry : ℕ) → HasOnly past clien
 back-frees past client entry o = record { hold = find-filter_none (λ (h : Held). h.client == client) (holds past); live = o.no_other }
 
 -- Nor has a client with a hold any live entry.
-pub held-free : (facts : Facts) (first : List Seen) (opening : List Row) (past : List Event) (client : ℕ) (held : Held) → IsHistory opening → IsLegalSo facts first opening past → hold past client ≡ Some held → list_any (λ l. l.client == client) (live past) ≡ false
-held-free facts first opening past client held v (c, f, s, legal) h =
-    let o = out-once c opening past v legal in
+pub held-free : (basis : Basis) (first : List Seen) (past : List Event) (client : ℕ) (held : Held) → IsHistory basis.opening → IsLegalSo basis first past → hold past client ≡ Some held → list_any (λ l. l.client == client) (live past) ≡ false
+held-free basis first past client held v (plans, legal) h =
+    let o = out-once (campaign_on basis first plans) past v legal in
     none-passes (λ (l : LiveEntry). l.client == client) (live past) (held-none past client held (live past) h o.apart)

@@ -33,15 +33,15 @@ module _ (name : Name) (client : ℕ) (seen met : List Entry) (l : IsLogOf name 
   pub runs-stay : (parts : Parts) (running : Option Op) → RunsSeen name client parts running seen → RunsSeen name client parts running met
   runs-stay parts running k =
       let c = k.runs in
-      let s : Stays name.facts name.first name.opening client (past_seen seen) (past_seen met) = stays name client seen met l m in
+      let s : Stays name.basis name.first client (past_seen seen) (past_seen met) = stays name client seen met l m in
       let own : IsOwn (past_seen seen) client parts.entry k.l = record { live = c.live; client_is = c.client_is } in
-      let e : SameEntry name.facts name.first name.opening (past_seen seen) (past_seen met) parts.entry k.l = s.own parts.entry k.l own in
-      let same : SameRun name.facts name.first name.opening (past_seen seen) (past_seen met) parts.entry k.number k.l =
+      let e : SameEntry name.basis name.first (past_seen seen) (past_seen met) parts.entry k.l = s.own parts.entry k.l own in
+      let same : SameRun name.basis name.first (past_seen seen) (past_seen met) parts.entry k.number k.l =
       record { live = e.live; step = e.step; traced = e.traced; row = e.row; board = e.board k.number c.board_is } in
       record {
         number = k.number;
         l = k.l;
-        runs = claim-stays name.facts name.first name.opening (past_seen seen) (past_seen met) client parts k.number k.l running l.history m.log.legal same c;
+        runs = claim-stays name.basis name.first (past_seen seen) (past_seen met) client parts k.number k.l running l.history m.log.legal same c;
         planned = k.planned;
       }
 
@@ -52,13 +52,13 @@ module _ (name : Name) (client : ℕ) (seen met : List Entry) (l : IsLogOf name 
         number = h.number;
         l = h.l;
         tail = h.tail;
-        comes = home-stays name.facts name.first name.opening client (past_seen seen) (past_seen met) entry h.number h.l h.tail b blocks (stays name client seen met l m) h.comes;
+        comes = home-stays name.basis name.first client (past_seen seen) (past_seen met) entry h.number h.l h.tail b blocks (stays name client seen met l m) h.comes;
         planned = h.planned;
       }
 
   -- A boot that is off still is.
   pub off-stay : off (past_seen seen) ≡ true → off (past_seen met) ≡ true
-  off-stay h = off-stays name.facts name.first name.opening client (past_seen seen) (past_seen met) (stays name client seen met l m) h
+  off-stay h = off-stays name.basis name.first client (past_seen seen) (past_seen met) (stays name client seen met l m) h
 
 -- A turn that is answered off leaves a boot that is off, and the board may come home as before.
 pub off-seen : (client : ℕ) (met log : List Entry) → FoundOff client met log → off (past_seen log) ≡ true
@@ -72,8 +72,8 @@ home-off name client entry b blocks met log (inr c) h =
       number = h.number;
       l = h.l;
       tail = h.tail;
-      comes = subst (λ (w : List Event). ComesHome name.facts name.first name.opening w client entry h.number h.l h.tail b blocks) (sym (past-added client Event.Cut met log c.1))
-          (home-cut name.facts name.first name.opening (past_seen met) client entry h.number h.l h.tail b blocks h.comes);
+      comes = subst (λ (w : List Event). ComesHome name.basis name.first w client entry h.number h.l h.tail b blocks) (sym (past-added client Event.Cut met log c.1))
+          (home-cut name.basis name.first (past_seen met) client entry h.number h.l h.tail b blocks h.comes);
       planned = h.planned;
     }
 

@@ -84,16 +84,16 @@ came-back entry a b c (cut, g) h o =
 
 -- ---- what the plugin made
 
-module _ (by : PluginSteps) (entry : ℕ) where
+module _ {by : PluginSteps} {entry : ℕ} where
   -- A claim that is handed on as it is.
-  made-none : (parts : Parts) (a : PassView Entry) → MadeSteps by entry parts parts a a
-  made-none parts a = record { steps = []; gained = gained-none a; payload = refl; made = refl }
+  made-none : {parts : Parts} {a : PassView Entry} → MadeSteps by entry parts parts a a
+  made-none {parts} {a} = record { steps = []; gained = gained-none a; payload = refl; made = refl }
 
-  pub made-here : (was is : Parts) (a : PassView Entry) → is ≡ was → MadeSteps by entry was is a a
-  made-here was is a e = subst (λ (p : Parts). MadeSteps by entry was p a a) (sym e) (made-none was a)
+  pub made-here : {was is : Parts} {a : PassView Entry} → is ≡ was → MadeSteps by entry was is a a
+  made-here {was} {is} {a} e = subst (λ (p : Parts). MadeSteps by entry was p a a) (sym e) made-none
 
-  pub made-on : (p q r : Parts) (a b c : PassView Entry) → MadeSteps by entry p q a b → MadeSteps by entry q r b c → MadeSteps by entry p r a c
-  made-on p q r a b c g h =
+  pub made-on : {p q r : Parts} {a b c : PassView Entry} → MadeSteps by entry p q a b → MadeSteps by entry q r b c → MadeSteps by entry p r a c
+  made-on {p} {q} {r} {a} {b} {c} g h =
       let n : ℕ = a.number in
       let rest : Gained (step_events n entry h.steps) b c = subst (λ (i : ℕ). Gained (step_events i entry h.steps) b c) g.gained.same h.gained in
       record {
@@ -106,9 +106,9 @@ module _ (by : PluginSteps) (entry : ℕ) where
       }
 
   -- A step that was started and ended.
-  made-one : (op : Op) (outcome : Result ⊤ BoardFault) (told : List Mark) (was is : Parts) (a b c : PassView Entry) → StepGives by op entry was.payload was.board outcome is.board → is.payload ≡ was.payload
+  made-one : {op : Op} {outcome : Result ⊤ BoardFault} {told : List Mark} {was is : Parts} {a b c : PassView Entry} → StepGives by op entry was.payload was.board outcome is.board → is.payload ≡ was.payload
       → Gained (Event.Start a.number entry op ∷ []) a b → Gained (Event.End b.number entry op outcome told (view_of is.board.condition) ∷ []) b c → MadeSteps by entry was is a c
-  made-one op outcome told was is a b c m p g h =
+  made-one {op} {outcome} {told} {was} {is} {a} {b} {c} m p g h =
       record {
         steps = record { op = op; outcome = outcome; told = told; seen = view_of is.board.condition } ∷ [];
         gained = gained-on (Event.Start a.number entry op ∷ []) (Event.End a.number entry op outcome told (view_of is.board.condition) ∷ []) a b c g
@@ -118,13 +118,13 @@ module _ (by : PluginSteps) (entry : ℕ) where
       }
 
   -- The giving back, behind nothing, behind a start, and behind steps.
-  pub back-none : (was : Parts) (a b : PassView Entry) → CameBack entry a b → GaveBack by entry was a b
-  back-none was a b k =
+  pub back-none : {was : Parts} {a b : PassView Entry} → CameBack entry a b → GaveBack by entry was a b
+  back-none {was} {a} {b} k =
       record { steps = []; started = None; cut = k.cut; gained = k.gained; over = k.over; last = was.board; made = refl; begun = tt }
 
-  back-started : (op : Op) (was : Parts) (answer : Result ⊤ BoardFault) (is : BoardState) (a b c : PassView Entry) → StepGives by op entry was.payload was.board answer is
+  back-started : {op : Op} {was : Parts} (answer : Result ⊤ BoardFault) (is : BoardState) {a b c : PassView Entry} → StepGives by op entry was.payload was.board answer is
       → Gained (Event.Start a.number entry op ∷ []) a b → CameBack entry b c → GaveBack by entry was a c
-  back-started op was answer is a b c m g k =
+  back-started {op} {was} answer is {a} {b} {c} m g k =
       record {
         steps = [];
         started = Some op;
@@ -137,8 +137,8 @@ module _ (by : PluginSteps) (entry : ℕ) where
         begun = (answer, is, m);
       }
 
-  pub back-on : (p q : Parts) (a b c : PassView Entry) → MadeSteps by entry p q a b → GaveBack by entry q b c → GaveBack by entry p a c
-  back-on p q a b c g k =
+  pub back-on : {p q : Parts} {a b c : PassView Entry} → MadeSteps by entry p q a b → GaveBack by entry q b c → GaveBack by entry p a c
+  back-on {p} {q} {a} {b} {c} g k =
       let n : ℕ = a.number in
       let tail : List Event = start_events n entry k.started ++ (cut_events k.cut ++ back_event n entry ∷ []) in
       let rest : Gained (step_events n entry k.steps ++ tail) b c =
@@ -157,8 +157,8 @@ module _ (by : PluginSteps) (entry : ℕ) where
         begun = subst (λ (x : SealedBytes). IsBegun by entry x k.last k.started) g.payload k.begun;
       }
 
-  finished-on : (finished : Finished) (p q : Parts) (a b c : PassView Entry) → MadeSteps by entry p q a b → WasFinished entry finished b c → Finishes by entry p finished a c
-  finished-on finished p q a b c g k =
+  finished-on : {finished : Finished} {p q : Parts} {a b c : PassView Entry} → MadeSteps by entry p q a b → WasFinished entry finished b c → Finishes by entry p finished a c
+  finished-on {finished} {p} {q} {a} {b} {c} g k =
       let n : ℕ = a.number in
       record {
         steps = g.steps;
@@ -170,9 +170,9 @@ module _ (by : PluginSteps) (entry : ℕ) where
       }
 
   -- A finish, or a giving back, behind steps.
-  pub ran-after : (o : Outcome) (p q : Parts) (a b c : PassView Entry) → MadeSteps by entry p q a b → Closes entry o b c → Ran by entry p o a c
-  ran-after (Outcome.Finished finished) p q a b c g h = finished-on finished p q a b c g h
-  ran-after Outcome.Off p q a b c g h = back-on p q a b c g (back-none q b c h)
+  pub ran-after : (o : Outcome) {p q : Parts} {a b : PassView Entry} (c : PassView Entry) → MadeSteps by entry p q a b → Closes entry o b c → Ran by entry p o a c
+  ran-after (Outcome.Finished finished) c g h = finished-on g h
+  ran-after Outcome.Off c g h = back-on g (back-none h)
 
 -- The run, by the plugin at a place, of what was taken.
 pub ran-at : (by at : PluginSteps) (entry : ℕ) (o : Outcome) (was taken : Parts) (a b : PassView Entry) → at ≡ by → was ≡ taken → Ran by entry was o a b → Ran at entry taken o a b
@@ -185,26 +185,25 @@ pub on-err : {T E : Type 0} (r : Result T E) (P : Type 0) → P → OnErr r P
 on-err (Ok x) P p = tt
 on-err (Err e) P p = p
 
-module _ {E : Type 0} (by : PluginSteps) (entry : ℕ) where
-  pub made-end : (r : Result Parts E) (op : Op) (outcome : Result ⊤ BoardFault) (was before is : Parts) (a b c : PassView Entry)
-      → was.entry ≡ entry → before ≡ was → StepGives by op before.entry before.payload before.board outcome is.board → Noted op before outcome is → Gained (Event.Start a.number entry op ∷ []) a b
-      → IfOk r (λ next. next ≡ is) → OnOk r ((told : List Mark) × Gained (Event.End b.number entry op outcome told (view_of is.board.condition) ∷ []) b c) → IfOk r (λ next. MadeSteps by entry was next a c)
-  made-end (Ok next) op outcome was before is a b c q s m n g e h =
-      subst (λ (p : Parts). MadeSteps by entry was p a c) (sym e)
-      (made-one by entry op outcome h.0 was is a b c (given-of by op entry was before outcome is.board q s m) (payload-of op was before is outcome s n) g h.1)
-  made-end (Err x) op outcome was before is a b c q s m n g e h = tt
+pub made-end : {E : Type 0} (by : PluginSteps) {entry : ℕ} (r : Result Parts E) {op : Op} {outcome : Result ⊤ BoardFault} {was before is : Parts} {a b : PassView Entry} (c : PassView Entry)
+    → was.entry ≡ entry → before ≡ was → StepGives by op before.entry before.payload before.board outcome is.board → Noted op before outcome is → Gained (Event.Start a.number entry op ∷ []) a b
+    → IfOk r (λ next. next ≡ is) → OnOk r ((told : List Mark) × Gained (Event.End b.number entry op outcome told (view_of is.board.condition) ∷ []) b c) → IfOk r (λ next. MadeSteps by entry was next a c)
+made-end by {entry} (Ok next) {op} {outcome} {was} {before} {is} {a} {b} c q s m n g e h =
+    subst (λ (p : Parts). MadeSteps by entry was p a c) (sym e)
+    (made-one (given-of by op entry was before outcome is.board q s m) (payload-of op was before is outcome s n) g h.1)
+made-end by (Err x) c q s m n g e h = tt
 
-  pub gone-end : (r : Result Parts E) (op : Op) (was before : Parts) (answer : Result ⊤ BoardFault) (is : BoardState) (a b c : PassView Entry)
-      → was.entry ≡ entry → before ≡ was → StepGives by op before.entry before.payload before.board answer is → Gained (Event.Start a.number entry op ∷ []) a b → OnErr r (CameBack entry b c) → OnErr r (GaveBack by entry was a c)
-  gone-end (Ok next) op was before answer is a b c q s m g h = tt
-  gone-end (Err x) op was before answer is a b c q s m g h = back-started by entry op was answer is a b c (given-of by op entry was before answer is q s m) g h
+pub gone-end : {E : Type 0} (by : PluginSteps) {entry : ℕ} (r : Result Parts E) {op : Op} {was before : Parts} (answer : Result ⊤ BoardFault) (is : BoardState) {a b : PassView Entry} (c : PassView Entry)
+    → was.entry ≡ entry → before ≡ was → StepGives by op before.entry before.payload before.board answer is → Gained (Event.Start a.number entry op ∷ []) a b → OnErr r (CameBack entry b c) → OnErr r (GaveBack by entry was a c)
+gone-end by (Ok next) answer is c q s m g h = tt
+gone-end by {entry} (Err x) {op} {was} {before} answer is c q s m g h = back-started answer is (given-of by op entry was before answer is q s m) g h
 
-  -- ---- steps behind steps
+-- ---- steps behind steps
 
-  pub made-after : (r : Result Parts E) (p q : Parts) (a b c : PassView Entry) → MadeSteps by entry p q a b → IfOk r (λ next. MadeSteps by entry q next b c) → IfOk r (λ next. MadeSteps by entry p next a c)
-  made-after (Ok next) p q a b c g h = made-on by entry p q next a b c g h
-  made-after (Err x) p q a b c g h = tt
+pub made-after : {E : Type 0} {by : PluginSteps} {entry : ℕ} (r : Result Parts E) {p q : Parts} {a b : PassView Entry} (c : PassView Entry) → MadeSteps by entry p q a b → IfOk r (λ next. MadeSteps by entry q next b c) → IfOk r (λ next. MadeSteps by entry p next a c)
+made-after (Ok next) c g h = made-on g h
+made-after (Err x) c g h = tt
 
-  pub gone-after : (r : Result Parts E) (p q : Parts) (a b c : PassView Entry) → MadeSteps by entry p q a b → OnErr r (GaveBack by entry q b c) → OnErr r (GaveBack by entry p a c)
-  gone-after (Ok next) p q a b c g h = tt
-  gone-after (Err x) p q a b c g h = back-on by entry p q a b c g h
+pub gone-after : {E : Type 0} {by : PluginSteps} {entry : ℕ} (r : Result Parts E) {p q : Parts} {a b : PassView Entry} (c : PassView Entry) → MadeSteps by entry p q a b → OnErr r (GaveBack by entry q b c) → OnErr r (GaveBack by entry p a c)
+gone-after (Ok next) c g h = tt
+gone-after (Err x) c g h = back-on g h

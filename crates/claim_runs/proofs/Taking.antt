@@ -31,16 +31,16 @@ use Rattle.claim_runs.proofs.Kept.{past-added}
 
 -- A claim or a resumption put this event behind the log, and the entry that it took is the client's live one.
 taken-so : (name : Name) (client number : ℕ) (event : Event) (taken : Taken) (met log : List Entry) → IsLogOf name log → Adds client event met log → off (event ∷ past_seen met) ≡ false → TakesWith taken.entry taken.payload event
-    → 0 < boots (event ∷ past_seen met) → IsTaken name.facts name.first name.opening (past_seen log) client taken number → HasPlan name.plans number taken.board → RunsSeen name client (parts_taken taken) None log
+    → 0 < boots (event ∷ past_seen met) → IsTaken name.basis name.first (past_seen log) client taken number → HasPlan name.plans number taken.board → RunsSeen name client (parts_taken taken) None log
 taken-so name client number event taken met log l a on w booted t p =
     let g : past_seen log ≡ event ∷ past_seen met = past-added client event met log a in
-    let t' : IsTaken name.facts name.first name.opening (event ∷ past_seen met) client taken number = subst (λ (x : List Event). IsTaken name.facts name.first name.opening x client taken number) g t in
-    let legal : IsLegalSo name.facts name.first name.opening (event ∷ past_seen met) = subst (λ (x : List Event). IsLegalSo name.facts name.first name.opening x) g l.legal in
+    let t' : IsTaken name.basis name.first (event ∷ past_seen met) client taken number = subst (λ (x : List Event). IsTaken name.basis name.first x client taken number) g t in
+    let legal : IsLegalSo name.basis name.first (event ∷ past_seen met) = subst (λ (x : List Event). IsLegalSo name.basis name.first x) g l.legal in
     record {
       number = number;
       l = t'.l;
-      runs = subst (λ (x : List Event). ClaimRuns name.facts name.first name.opening x client (parts_taken taken) number t'.l None) (sym g)
-          (taken-runs name.facts name.first name.opening (past_seen met) event client taken number l.history legal on booted w t');
+      runs = subst (λ (x : List Event). ClaimRuns name.basis name.first x client (parts_taken taken) number t'.l None) (sym g)
+          (taken-runs name.basis name.first (past_seen met) event client taken number l.history legal on booted w t');
       planned = p;
     }
 
@@ -52,9 +52,9 @@ claim-runs name request fetched taken old new l same t a whole e =
     let event : Event = Event.Claim old.number request (whole_note taken.payload) (ClaimAnswer.Entry taken.entry) in
     let added : Adds old.number event t.met new.seen = subst (λ (f : Fetched). Adds old.number (Event.Claim old.number request (note_of f) (ClaimAnswer.Entry taken.entry)) t.met new.seen) whole a.1 in
     let g : past_seen new.seen ≡ event ∷ past_seen t.met = past-added old.number event t.met new.seen added in
-    let legal : IsLegalSo name.facts name.first name.opening (event ∷ past_seen t.met) = subst (λ (x : List Event). IsLegalSo name.facts name.first name.opening x) g l.legal in
+    let legal : IsLegalSo name.basis name.first (event ∷ past_seen t.met) = subst (λ (x : List Event). IsLegalSo name.basis name.first x) g l.legal in
     subst (λ (n : ℕ). RunsSeen name n (parts_taken taken) None new.seen) (sym same)
-    (taken-so name old.number e.number event taken t.met new.seen l added a.0 (claim-takes old.number taken.entry request taken.payload) (legal.3.1.booted refl) e.is e.planned)
+    (taken-so name old.number e.number event taken t.met new.seen l added a.0 (claim-takes old.number taken.entry request taken.payload) (legal.1.1.booted refl) e.is e.planned)
 
 -- The place that was found is one of the list.
 place-found : {X : Type 0} (p : X → Bool) (xs : List X) (n : ℕ) → position p xs ≡ Some n → n < length xs

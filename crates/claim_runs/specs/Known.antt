@@ -21,7 +21,7 @@ use Rattle.shared_daemon.specs.Names.{Name}
 pub record RunsSeen (name : Name) (client : ℕ) (parts : Parts) (running : Option Op) (seen : List Entry) : Type 0 where
   pub number : ℕ
   pub l : LiveEntry
-  pub runs : ClaimRuns name.facts name.first name.opening (past_seen seen) client parts number l running
+  pub runs : ClaimRuns name.basis name.first (past_seen seen) client parts number l running
   pub planned : HasPlan name.plans number parts.board
 
 -- A claim of that entry runs, by what the pass saw last: the entry is the live one of the pass's client, and
@@ -35,7 +35,7 @@ pub record HomeSeen (name : Name) (client entry : ℕ) (board : BoardState) (blo
   pub number : ℕ
   pub l : LiveEntry
   pub tail : List Mark
-  pub comes : ComesHome name.facts name.first name.opening (past_seen seen) client entry number l tail board blocks
+  pub comes : ComesHome name.basis name.first (past_seen seen) client entry number l tail board blocks
   pub planned : HasPlan name.plans number board
 
 -- A step of the entry is open, and the plugin made it of the claim as it was before: this is its answer,

@@ -8,9 +8,10 @@
 #![tactic(auto)]
 
 mod outcome;
+mod runner;
 mod running;
 mod steps;
 mod turns;
 
 pub use outcome::Outcome;
-pub use running::run_claim;
+pub use runner::Runner;

@@ -3,7 +3,6 @@ use Rattle.std.proofs.Common.{◌≡◌, ◌⊎◌, ℕ, true, false, not, List,
 use Rattle.std.proofs.lemmas.Option.{same_Some}
 use Rattle.std.specs.Prelude.{Option, Some, None, ◌==◌, find}
 use Rattle.release_catalogue.specs.declared.reference.ReleaseRef.{ReleaseRef}
-use Rattle.history_keeper.specs.declared.row.Row.{Row}
 use Rattle.update_log.proofs.Lists.{by_test, eqb-other, eqb-self, find-filter, find-filter_none, find-push_other, find-push_new}
 use Rattle.update_log.specs.declared.answer.AskAnswer.{AskAnswer}
 use Rattle.update_log.specs.declared.answer.ClaimAnswer.{ClaimAnswer}
@@ -70,20 +69,20 @@ asked-hold (event ∷ past) client request pending blocks release h =
         (find-filter_none (λ (x : Held). x.client == client) (holds past)) (eqb-self client)
 
 -- The claim of an install takes an entry, where its payload came whole or the shelf failed.
-pub install-came : (c : Campaign) (opening : List Row) (past : List Event) (client : ℕ) (request : Request) (blocks : ℕ) (release : ReleaseRef) (note : FetchNote) (answer : ClaimAnswer)
-    → Allowed c opening past (Event.Claim client request note answer) → last_of client past ≡ Some (Event.Ask client request None (AskAnswer.Hold blocks release))
-    → IsAccept (verdict c.facts opening past client request (Stage.Claim release)) → CameWhole c.facts release note ⊎ (note ≡ FetchNote.ShelfFault) → Takes (next_entry c.facts opening past) note answer
-install-came c opening past client request blocks release note answer allowed asked accepted came =
-    claim-came c.facts opening past client request note answer (asked_hold client request None blocks release) claim accepted came
+pub install-came : (c : Campaign) (past : List Event) (client : ℕ) (request : Request) (blocks : ℕ) (release : ReleaseRef) (note : FetchNote) (answer : ClaimAnswer)
+    → Allowed c past (Event.Claim client request note answer) → last_of client past ≡ Some (Event.Ask client request None (AskAnswer.Hold blocks release))
+    → IsAccept (verdict c.basis past client request (Stage.Claim release)) → CameWhole c.basis.facts release note ⊎ (note ≡ FetchNote.ShelfFault) → Takes (next_entry c.basis past) note answer
+install-came c past client request blocks release note answer allowed asked accepted came =
+    claim-came c.basis past client request note answer (asked_hold client request None blocks release) claim accepted came
   where
     same : allowed.0 ≡ asked_hold client request None blocks release
     same = same_Some allowed.0 (asked_hold client request None blocks release) (sym allowed.1.held_is ∙ asked-hold past client request None blocks release asked)
 
-    claim : ClaimAllowed c.facts opening past client request note answer (asked_hold client request None blocks release)
-    claim = subst (ClaimAllowed c.facts opening past client request note answer) same allowed.1
+    claim : ClaimAllowed c.basis past client request note answer (asked_hold client request None blocks release)
+    claim = subst (ClaimAllowed c.basis past client request note answer) same allowed.1
 
-pub install-complete : (c : Campaign) (opening : List Row) (past : List Event) (client : ℕ) (request : Request) (release : ReleaseRef) (note : FetchNote) (answer : ClaimAnswer) (files : Files)
-    → Allowed c opening past (Event.Claim client request note answer) → IsFetched c.facts files release note
-    → CanInstall c.facts opening past files client request release → Takes (next_entry c.facts opening past) note answer
-install-complete c opening past client request release note answer files allowed fetched can =
-    install-came c opening past client request can.blocks release note answer allowed can.asked can.accepted (came-whole c.facts files release note fetched can.payload)
+pub install-complete : (c : Campaign) (past : List Event) (client : ℕ) (request : Request) (release : ReleaseRef) (note : FetchNote) (answer : ClaimAnswer) (files : Files)
+    → Allowed c past (Event.Claim client request note answer) → IsFetched c.basis.facts files release note
+    → CanInstall c.basis past files client request release → Takes (next_entry c.basis past) note answer
+install-complete c past client request release note answer files allowed fetched can =
+    install-came c past client request can.blocks release note answer allowed can.asked can.accepted (came-whole c.basis.facts files release note fetched can.payload)

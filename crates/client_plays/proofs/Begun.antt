@@ -11,9 +11,8 @@ use Rattle.update_log.specs.declared.answer.AskAnswer.{AskAnswer}
 use Rattle.update_log.specs.declared.answer.ClaimAnswer.{ClaimAnswer}
 use Rattle.update_log.specs.declared.answer.ResumeAnswer.{ResumeAnswer}
 use Rattle.update_log.specs.declared.event.Event.{Event}
-use Rattle.update_log.specs.declared.facts.Facts.{Facts}
 use Rattle.update_log.specs.declared.request.Request.{Request}
-use Rattle.update_log.specs.Known.{rows, views}
+use Rattle.update_log.specs.Known.{Basis, rows, views}
 use Rattle.update_log.specs.Shows.{IsPrefix}
 use Rattle.release_catalogue.specs.declared.reference.ReleaseRef.{ReleaseRef}
 use Rattle.offline_updates.specs.Waiting.{entries_where, is_pending}
@@ -188,31 +187,31 @@ quiet-back_rows client (m ∷ n ∷ moments) g = absurd g
 
 -- ---- items
 
-module _ (facts : Facts) (opening : List Row) (means : Means) (client : ℕ) where
-  quiet-after_claim : (past : List Event) (answer : ClaimAnswer) (moments : List Moment) → AfterClaim facts opening means.plugins client past answer moments → begun begun_by moments ≡ []
+module _ (basis : Basis) (means : Means) (client : ℕ) where
+  quiet-after_claim : (past : List Event) (answer : ClaimAnswer) (moments : List Moment) → AfterClaim basis means.plugins client past answer moments → begun begun_by moments ≡ []
   quiet-after_claim past (ClaimAnswer.Entry entry) moments p = quiet-update (means.plugins p.place) client entry p.payload p.board moments p.plays
   quiet-after_claim past (ClaimAnswer.Kept entry state) moments p = quiet-none begun_by moments p
   quiet-after_claim past (ClaimAnswer.Refused refusal) moments p = quiet-none begun_by moments p
 
-  quiet-claim : (request : Request) (release : ReleaseRef) (moments : List Moment) → ClaimPlays facts opening means client request release moments → begun begun_by moments ≡ []
+  quiet-claim : (request : Request) (release : ReleaseRef) (moments : List Moment) → ClaimPlays basis means client request release moments → begun begun_by moments ≡ []
   quiet-claim request release [] p = absurd p
   quiet-claim request release (m ∷ moments) p = quiet-more begun_by m moments (ap begun_by p.2) (quiet-after_claim (behind m) p.1 moments p.4)
 
-  quiet-after_ask : (request : Request) (answer : AskAnswer) (moments : List Moment) → AfterAsk facts opening means client request answer moments → begun begun_by moments ≡ []
+  quiet-after_ask : (request : Request) (answer : AskAnswer) (moments : List Moment) → AfterAsk basis means client request answer moments → begun begun_by moments ≡ []
   quiet-after_ask request (AskAnswer.Hold blocks release) moments p = quiet-claim request release moments p
   quiet-after_ask request (AskAnswer.Kept entry state) moments p = quiet-none begun_by moments p
   quiet-after_ask request (AskAnswer.Refused refusal) moments p = quiet-none begun_by moments p
 
-  install-begun : (request : Request) (moments : List Moment) → InstallPlays facts opening means client request moments → begun begun_by moments ≡ Now request ∷ []
+  install-begun : (request : Request) (moments : List Moment) → InstallPlays basis means client request moments → begun begun_by moments ≡ Now request ∷ []
   install-begun request [] p = absurd p
   install-begun request (m ∷ moments) p = begun-head begun_by (Now request) m moments (ap begun_by p.1) (quiet-after_ask request p.0 moments p.2)
 
-  install-so : (request : Request) (offline : Bool) (moments : List Moment) → MatchBool offline (Alone (SchedulePlays client request) moments) (InstallPlays facts opening means client request moments)
+  install-so : (request : Request) (offline : Bool) (moments : List Moment) → MatchBool offline (Alone (SchedulePlays client request) moments) (InstallPlays basis means client request moments)
       → begun begun_by moments ≡ (if offline then AtBoot request else Now request) ∷ []
   install-so request true moments p = begun-alone begun_by (SchedulePlays client request) (Some (AtBoot request)) (λ m s. ap begun_by s.1) moments p
   install-so request false moments p = install-begun request moments p
 
-  item-begun : (item : Item) (moments : List Moment) → Plays facts opening means client item moments → begun begun_by moments ≡ cons_option (wanted_by item) []
+  item-begun : (item : Item) (moments : List Moment) → Plays basis means client item moments → begun begun_by moments ≡ cons_option (wanted_by item) []
   item-begun (Item.Ask query) moments p = begun-alone begun_by _ None (λ m s. ap begun_by s) moments p
   item-begun (Item.Install request) moments p = install-so request request.flags.offline moments p
   item-begun (Item.Settle selector) moments p =
@@ -220,9 +219,9 @@ module _ (facts : Facts) (opening : List Row) (means : Means) (client : ℕ) whe
   item-begun (Item.Unplug selector) moments p = begun-alone begun_by _ None (λ m s. ap begun_by s.1) moments p
   item-begun (Item.Plug selector) moments p = begun-alone begun_by _ None (λ m s. ap begun_by s.1) moments p
 
-  pub items-begun : (is_off wanting : Bool) (items : List Item) (moments : List Moment) → PlayedSo is_off wanting client (Plays facts opening means client) items moments → AreBegun is_off wanting (begun begun_by moments) (filter_map wanted_by items)
+  pub items-begun : (is_off wanting : Bool) (items : List Item) (moments : List Moment) → PlayedSo is_off wanting client (Plays basis means client) items moments → AreBegun is_off wanting (begun begun_by moments) (filter_map wanted_by items)
   items-begun is_off wanting items moments p =
-      so-begun client (Plays facts opening means client) begun_by wanted_by item-begun (quiet-back client) is_off wanting items moments p
+      so-begun client (Plays basis means client) begun_by wanted_by item-begun (quiet-back client) is_off wanting items moments p
 
 -- ---- tasks of the daemon
 
@@ -231,20 +230,20 @@ abbrev pub row_of_task : Task → Option ℕ
 row_of_task (ToJudge entry) = None
 row_of_task (ToResume entry) = Some entry
 
-module _ (facts : Facts) (opening : List Row) (means : Means) where
-  quiet-after_resume : (entry : ℕ) (past : List Event) (answer : ResumeAnswer) (moments : List Moment) → AfterResume facts opening means.plugins entry past answer moments → begun row_begun_by moments ≡ []
+module _ (basis : Basis) (means : Means) where
+  quiet-after_resume : (entry : ℕ) (past : List Event) (answer : ResumeAnswer) (moments : List Moment) → AfterResume basis means.plugins entry past answer moments → begun row_begun_by moments ≡ []
   quiet-after_resume entry past ResumeAnswer.Begun moments p = quiet-update_rows (means.plugins p.place) 0 entry p.payload p.board moments p.plays
   quiet-after_resume entry past (ResumeAnswer.Refused refusal) moments p = quiet-none row_begun_by moments p
 
-  quiet-resume : (entry : ℕ) (asked : AskAnswer) (moments : List Moment) → ResumePlays facts opening means entry asked moments → begun row_begun_by moments ≡ []
+  quiet-resume : (entry : ℕ) (asked : AskAnswer) (moments : List Moment) → ResumePlays basis means entry asked moments → begun row_begun_by moments ≡ []
   quiet-resume entry asked [] p = absurd p
   quiet-resume entry asked (m ∷ moments) p = quiet-more row_begun_by m moments (ap row_begun_by p.3) (quiet-after_resume entry (behind m) p.1 moments p.5)
 
-  pending-begun : (entry : ℕ) (moments : List Moment) → PendingPlays facts opening means entry moments → begun row_begun_by moments ≡ entry ∷ []
+  pending-begun : (entry : ℕ) (moments : List Moment) → PendingPlays basis means entry moments → begun row_begun_by moments ≡ entry ∷ []
   pending-begun entry [] p = absurd p
   pending-begun entry (m ∷ moments) p = begun-head row_begun_by entry m moments (ap row_begun_by p.2) (quiet-resume entry p.1 moments p.3)
 
-  task-begun : (task : Task) (moments : List Moment) → TaskPlays facts opening means task moments → begun row_begun_by moments ≡ cons_option (row_of_task task) []
+  task-begun : (task : Task) (moments : List Moment) → TaskPlays basis means task moments → begun row_begun_by moments ≡ cons_option (row_of_task task) []
   task-begun (ToJudge entry) moments p = begun-alone row_begun_by _ None (λ m s. ap row_begun_by s.3) moments p
   task-begun (ToResume entry) moments p = pending-begun entry moments p
 
@@ -256,18 +255,18 @@ module _ (facts : Facts) (opening : List Row) (means : Means) where
   resumed-all [] = refl
   resumed-all (entry ∷ entries) = ap (λ (es : List ℕ). entry ∷ es) (resumed-all entries)
 
-  tasks-wanted : (past : List Event) → filter_map row_of_task (tasks facts opening past) ≡ rows_waiting facts opening past
+  tasks-wanted : (past : List Event) → filter_map row_of_task (tasks basis past) ≡ rows_waiting basis past
   tasks-wanted [] = refl
   tasks-wanted (boot ∷ past) =
-      let all : List Row = rows facts opening (boot ∷ past) in
-      let judged : List Row = filter (is_judgeable (boot ∷ past) (views facts opening (boot ∷ past))) all in
+      let all : List Row = rows basis (boot ∷ past) in
+      let judged : List Row = filter (is_judgeable (boot ∷ past) (views basis (boot ∷ past))) all in
       let waiting : List ℕ = entries_where is_pending all in
       filter_map-append row_of_task (map (λ row. ToJudge row.entry) judged) (map ToResume waiting)
       ∙ ap (λ (es : List ℕ). es ++ filter_map row_of_task (map ToResume waiting)) (judged-none judged)
       ∙ resumed-all waiting
 
-  pub tasks-begun : (is_off wanting : Bool) (past : List Event) (moments : List Moment) → PlayedSo is_off wanting 0 (TaskPlays facts opening means) (tasks facts opening past) moments
-      → AreBegun is_off wanting (begun row_begun_by moments) (rows_waiting facts opening past)
+  pub tasks-begun : (is_off wanting : Bool) (past : List Event) (moments : List Moment) → PlayedSo is_off wanting 0 (TaskPlays basis means) (tasks basis past) moments
+      → AreBegun is_off wanting (begun row_begun_by moments) (rows_waiting basis past)
   tasks-begun is_off wanting past moments p =
       subst (λ (wanted : List ℕ). AreBegun is_off wanting (begun row_begun_by moments) wanted) (tasks-wanted past)
-      (so-begun 0 (TaskPlays facts opening means) row_begun_by row_of_task task-begun (quiet-back_rows 0) is_off wanting (tasks facts opening past) moments p)
+      (so-begun 0 (TaskPlays basis means) row_begun_by row_of_task task-begun (quiet-back_rows 0) is_off wanting (tasks basis past) moments p)

@@ -66,8 +66,8 @@ accepted-hold (Decision.Accept device release blocks) answer a e = (blocks, rele
 accepted-hold (Decision.Kept entry state) answer a e = cc
 accepted-hold (Decision.Refused refusal) answer a e = cc
 
-module _ (c : Campaign) (opening : List Row) (past : List Event) (files : Files) (wanting : Bool) (client : ℕ)
-    (legal : IsLegal c opening past) (idle : EndsIdle past) (told : AllTold c.facts files (WasStopped (off past) wanting) None (mine client past)) where
+module _ (c : Campaign) (past : List Event) (files : Files) (wanting : Bool) (client : ℕ)
+    (legal : IsLegal c past) (idle : EndsIdle past) (told : AllTold c.basis.facts files (WasStopped (off past) wanting) None (mine client past)) where
   -- ---- an ask that was answered with a hold
 
   module _ (request : Request) (pending : Option ℕ) (blocks : ℕ) (release : ReleaseRef) (later before : List Event)
@@ -91,7 +91,7 @@ module _ (c : Campaign) (opening : List Row) (past : List Event) (files : Files)
     so = are
 
     out : Released client asked later given
-    out = released c opening client asked later given (subst (IsLegal c opening) so legal) in_boot held-here (ap (λ (p : List Event). holds p) (sym so) ∙ idle.no_hold)
+    out = released c client asked later given (subst (IsLegal c) so legal) in_boot held-here (ap (λ (p : List Event). holds p) (sym so) ∙ idle.no_hold)
 
     -- The log at the event that ends the hold.
     abbrev met : List Event
@@ -103,13 +103,13 @@ module _ (c : Campaign) (opening : List Row) (past : List Event) (files : Files)
     ended : (event : Event) → out.event ≡ event → past ≡ out.newer ++ event ∷ met
     ended event e = stands ∙ ap (λ (x : Event). out.newer ++ x ∷ met) e
 
-    let_so : (event : Event) → out.event ≡ event → Allowed c opening met event
-    let_so event e = legal-at c opening out.newer event met (subst (IsLegal c opening) (ended event e) legal)
+    let_so : (event : Event) → out.event ≡ event → Allowed c met event
+    let_so event e = legal-at c out.newer event met (subst (IsLegal c) (ended event e) legal)
 
-    told_so : (event : Event) → out.event ≡ event → is_boot event ≡ false → is_of client event ≡ true → Told c.facts files (WasStopped (off past) wanting) (last_of client met) event
+    told_so : (event : Event) → out.event ≡ event → is_boot event ≡ false → is_of client event ≡ true → Told c.basis.facts files (WasStopped (off past) wanting) (last_of client met) event
     told_so event e b o =
-        told-at c.facts files (WasStopped (off past) wanting) client out.newer event met out.newer_on b o
-        (subst (λ (p : List Event). AllTold c.facts files (WasStopped (off past) wanting) None (mine client p)) (ended event e) told)
+        told-at c.basis.facts files (WasStopped (off past) wanting) client out.newer event met out.newer_on b o
+        (subst (λ (p : List Event). AllTold c.basis.facts files (WasStopped (off past) wanting) None (mine client p)) (ended event e) told)
 
     held_so : hold met client ≡ Some given
     held_so = out.still
@@ -140,29 +140,29 @@ module _ (c : Campaign) (opening : List Row) (past : List Event) (files : Files)
         }
 
     -- It was claimed.
-    installed : (note : FetchNote) (answer : ClaimAnswer) → out.event ≡ Event.Claim client request note answer → IsFetched c.facts files release note → last_of client met ≡ Some (Event.Ask client request None (AskAnswer.Hold blocks release))
-        → IsAccept (verdict c.facts opening met client request (Stage.Claim release)) → IsThere c.facts files release note → Installs (off past) (next_entry c.facts opening met) out.newer note answer
+    installed : (note : FetchNote) (answer : ClaimAnswer) → out.event ≡ Event.Claim client request note answer → IsFetched c.basis.facts files release note → last_of client met ≡ Some (Event.Ask client request None (AskAnswer.Hold blocks release))
+        → IsAccept (verdict c.basis met client request (Stage.Claim release)) → IsThere c.basis.facts files release note → Installs (off past) (next_entry c.basis met) out.newer note answer
     installed note answer e fetched last accept there =
-        by (install-came c opening met client request blocks release note answer (let_so (Event.Claim client request note answer) e) last accept (came-there c.facts files release note fetched there))
+        by (install-came c met client request blocks release note answer (let_so (Event.Claim client request note answer) e) last accept (came-there c.basis.facts files release note fetched there))
       where
-        by : Takes (next_entry c.facts opening met) note answer → Installs (off past) (next_entry c.facts opening met) out.newer note answer
+        by : Takes (next_entry c.basis met) note answer → Installs (off past) (next_entry c.basis met) out.newer note answer
         by (inl t) =
-            let n : ℕ = next_entry c.facts opening met in
+            let n : ℕ = next_entry c.basis met in
             inl (t, taken_so (Event.Claim client request note answer) n e (ap (λ (x : ClaimAnswer). takes n (Event.Claim client request note x)) t ∙ eqb-self n))
         by (inr (inl t)) =
             inr (inl (t, off_so (Event.Claim client request note answer) e (ap (λ (x : ClaimAnswer). off (Event.Claim client request note x ∷ met)) t)))
         by (inr (inr t)) = inr (inr t)
 
-    claimed : (other : Request) (note : FetchNote) (answer : ClaimAnswer) → out.event ≡ Event.Claim client other note answer → IsClaimed c.facts opening files (off past) client request release asked later
+    claimed : (other : Request) (note : FetchNote) (answer : ClaimAnswer) → out.event ≡ Event.Claim client other note answer → IsClaimed c.basis files (off past) client request release asked later
     claimed other note answer e =
         let a = let_so (Event.Claim client other note answer) e in
-        let f : FetchedFor c.facts files client None note (last_of client met) = told_so (Event.Claim client other note answer) e refl (eqb-self client) in
+        let f : FetchedFor c.basis.facts files client None note (last_of client met) = told_so (Event.Claim client other note answer) e refl (eqb-self client) in
         let r = last_so (Event.Ask client f.request None (AskAnswer.Hold f.blocks f.release)) (eqb-self client) f.asked in
         let s = ask-same client f.request request None pending f.blocks blocks f.release release r.0 in
         let held : a.0 ≡ given = same_Some a.0 given (sym a.1.held_is ∙ held_so) in
         let wanted : other ≡ request = sym a.1.request_is ∙ ap (λ (h : Held). h.request) held in
         let now : out.event ≡ Event.Claim client request note answer = e ∙ ap (λ (x : Request). Event.Claim client x note answer) wanted in
-        let fetched : IsFetched c.facts files release note = subst (λ (x : ReleaseRef). IsFetched c.facts files x note) s.release f.fetched in
+        let fetched : IsFetched c.basis.facts files release note = subst (λ (x : ReleaseRef). IsFetched c.basis.facts files x note) s.release f.fetched in
         let last : last_of client met ≡ Some (Event.Ask client request None (AskAnswer.Hold blocks release)) =
         f.asked ∙ ap Some r.0 ∙ ap (λ (o : Option ℕ). Some (Event.Ask client request o (AskAnswer.Hold blocks release))) (sym s.pending) in
         record {
@@ -173,10 +173,10 @@ module _ (c : Campaign) (opening : List Row) (past : List Event) (files : Files)
           installs = λ accept there. installed note answer now fetched last accept there;
         }
 
-    client-comes : 0 < client → IsClaimed c.facts opening files (off past) client request release asked later ⊎ IsGivenUp (off past) wanting client asked later
+    client-comes : 0 < client → IsClaimed c.basis files (off past) client request release asked later ⊎ IsGivenUp (off past) wanting client asked later
     client-comes above = on out.event refl out.lets
       where
-        on : (event : Event) → out.event ≡ event → lets_go client event ≡ true → IsClaimed c.facts opening files (off past) client request release asked later ⊎ IsGivenUp (off past) wanting client asked later
+        on : (event : Event) → out.event ≡ event → lets_go client event ≡ true → IsClaimed c.basis files (off past) client request release asked later ⊎ IsGivenUp (off past) wanting client asked later
         on (Event.Boot number time limit found boards) e t = cc
         on (Event.Query other query) e t = cc
         on (Event.Ask other wanted row answer) e t = cc
@@ -198,8 +198,8 @@ module _ (c : Campaign) (opening : List Row) (past : List Event) (files : Files)
 
 -- ---- an ask of the daemon for a row
 
-module _ (c : Campaign) (opening : List Row) (past : List Event) (files : Files) (wanting : Bool)
-    (legal : IsLegal c opening past) (idle : EndsIdle past) (told : AllTold c.facts files (WasStopped (off past) wanting) None (mine 0 past))
+module _ (c : Campaign) (past : List Event) (files : Files) (wanting : Bool)
+    (legal : IsLegal c past) (idle : EndsIdle past) (told : AllTold c.basis.facts files (WasStopped (off past) wanting) None (mine 0 past))
     (entry : ℕ) (request : Request) (blocks : ℕ) (release : ReleaseRef) (later before : List Event)
     (are : past ≡ later ++ Event.Ask 0 request (Some entry) (AskAnswer.Hold blocks release) ∷ before) (in_boot : list_any is_boot later ≡ false) where
   abbrev waited : List Event
@@ -209,32 +209,32 @@ module _ (c : Campaign) (opening : List Row) (past : List Event) (files : Files)
   wants = asked_hold 0 request (Some entry) blocks release
 
   abbrev ends : Released 0 waited later wants
-  ends = out c opening past files wanting 0 legal idle told request (Some entry) blocks release later before are in_boot
+  ends = out c past files wanting 0 legal idle told request (Some entry) blocks release later before are in_boot
 
   abbrev seen : List Event
   seen = ends.between ++ waited
 
-  begun : (note : FetchNote) (answer : ResumeAnswer) (stored : Stored) → ends.event ≡ Event.Resume 0 entry (Some note) answer stored → IsFetched c.facts files release note → IsAccept (verdict c.facts opening seen 0 request (Stage.Resume entry release)) → IsThere c.facts files release note
+  begun : (note : FetchNote) (answer : ResumeAnswer) (stored : Stored) → ends.event ≡ Event.Resume 0 entry (Some note) answer stored → IsFetched c.basis.facts files release note → IsAccept (verdict c.basis seen 0 request (Stage.Resume entry release)) → IsThere c.basis.facts files release note
       → Begins (off past) entry ends.newer note answer
   begun note answer stored e fetched accept there =
-      let a = let_so c opening past files wanting 0 legal idle told request (Some entry) blocks release later before are in_boot (Event.Resume 0 entry (Some note) answer stored) e in
-      by (resumption-came c.facts opening seen 0 entry note answer stored a.0 wants a.1 (held_so c opening past files wanting 0 legal idle told request (Some entry) blocks release later before are in_boot) accept (came-there c.facts files release note fetched there))
+      let a = let_so c past files wanting 0 legal idle told request (Some entry) blocks release later before are in_boot (Event.Resume 0 entry (Some note) answer stored) e in
+      by (resumption-came c.basis seen 0 entry note answer stored a.0 wants a.1 (held_so c past files wanting 0 legal idle told request (Some entry) blocks release later before are in_boot) accept (came-there c.basis.facts files release note fetched there))
     where
       by : Resumes note answer → Begins (off past) entry ends.newer note answer
       by (inl t) =
-          inl (t, taken_so c opening past files wanting 0 legal idle told request (Some entry) blocks release later before are in_boot (Event.Resume 0 entry (Some note) answer stored) entry e (ap (λ (x : ResumeAnswer). takes entry (Event.Resume 0 entry (Some note) x stored)) t ∙ eqb-self entry))
+          inl (t, taken_so c past files wanting 0 legal idle told request (Some entry) blocks release later before are in_boot (Event.Resume 0 entry (Some note) answer stored) entry e (ap (λ (x : ResumeAnswer). takes entry (Event.Resume 0 entry (Some note) x stored)) t ∙ eqb-self entry))
       by (inr (inl t)) =
-          inr (inl (t, off_so c opening past files wanting 0 legal idle told request (Some entry) blocks release later before are in_boot (Event.Resume 0 entry (Some note) answer stored) e (ap (λ (x : ResumeAnswer). off (Event.Resume 0 entry (Some note) x stored ∷ seen)) t)))
+          inr (inl (t, off_so c past files wanting 0 legal idle told request (Some entry) blocks release later before are in_boot (Event.Resume 0 entry (Some note) answer stored) e (ap (λ (x : ResumeAnswer). off (Event.Resume 0 entry (Some note) x stored ∷ seen)) t)))
       by (inr (inr t)) = inr (inr t)
 
-  resumed : (row : ℕ) (note : FetchNote) (answer : ResumeAnswer) (stored : Stored) → ends.event ≡ Event.Resume 0 row (Some note) answer stored → IsResumed c.facts opening files (off past) entry request release waited later
+  resumed : (row : ℕ) (note : FetchNote) (answer : ResumeAnswer) (stored : Stored) → ends.event ≡ Event.Resume 0 row (Some note) answer stored → IsResumed c.basis files (off past) entry request release waited later
   resumed row note answer stored e =
-      let f : FetchedFor c.facts files 0 (Some row) note (last_of 0 seen) = told_so c opening past files wanting 0 legal idle told request (Some entry) blocks release later before are in_boot (Event.Resume 0 row (Some note) answer stored) e refl refl in
-      let r = last_so c opening past files wanting 0 legal idle told request (Some entry) blocks release later before are in_boot (Event.Ask 0 f.request (Some row) (AskAnswer.Hold f.blocks f.release)) refl f.asked in
+      let f : FetchedFor c.basis.facts files 0 (Some row) note (last_of 0 seen) = told_so c past files wanting 0 legal idle told request (Some entry) blocks release later before are in_boot (Event.Resume 0 row (Some note) answer stored) e refl refl in
+      let r = last_so c past files wanting 0 legal idle told request (Some entry) blocks release later before are in_boot (Event.Ask 0 f.request (Some row) (AskAnswer.Hold f.blocks f.release)) refl f.asked in
       let s = ask-same 0 f.request request (Some row) (Some entry) f.blocks blocks f.release release r.0 in
       let same : row ≡ entry = same_Some row entry s.pending in
       let now : ends.event ≡ Event.Resume 0 entry (Some note) answer stored = e ∙ ap (λ (n : ℕ). Event.Resume 0 n (Some note) answer stored) same in
-      let fetched : IsFetched c.facts files release note = subst (λ (x : ReleaseRef). IsFetched c.facts files x note) s.release f.fetched in
+      let fetched : IsFetched c.basis.facts files release note = subst (λ (x : ReleaseRef). IsFetched c.basis.facts files x note) s.release f.fetched in
       record {
         note = note;
         answer = answer;
@@ -247,63 +247,63 @@ module _ (c : Campaign) (opening : List Row) (past : List Event) (files : Files)
   -- A resumption without a payload comes behind an ask that got no hold.
   not-refused : (row : ℕ) (answer : ResumeAnswer) (stored : Stored) (G : Type 0) → ends.event ≡ Event.Resume 0 row None answer stored → G
   not-refused row answer stored G e =
-      let f : AskedFor 0 (Some row) (last_of 0 seen) = told_so c opening past files wanting 0 legal idle told request (Some entry) blocks release later before are in_boot (Event.Resume 0 row None answer stored) e refl refl in
-      let r = last_so c opening past files wanting 0 legal idle told request (Some entry) blocks release later before are in_boot (Event.Ask 0 f.request (Some row) f.answer) refl f.asked in
+      let f : AskedFor 0 (Some row) (last_of 0 seen) = told_so c past files wanting 0 legal idle told request (Some entry) blocks release later before are in_boot (Event.Resume 0 row None answer stored) e refl refl in
+      let r = last_so c past files wanting 0 legal idle told request (Some entry) blocks release later before are in_boot (Event.Ask 0 f.request (Some row) f.answer) refl f.asked in
       let same : f.answer ≡ AskAnswer.Hold blocks release = answer-same 0 f.request request (Some row) (Some entry) f.answer (AskAnswer.Hold blocks release) r.0 in
       absurd (f.no_hold blocks release same)
 
   -- The daemon claims no row that was put off.
   not-claimed : (wanted : Request) (note : FetchNote) (answer : ClaimAnswer) (G : Type 0) → ends.event ≡ Event.Claim 0 wanted note answer → G
   not-claimed wanted note answer G e =
-      let a = let_so c opening past files wanting 0 legal idle told request (Some entry) blocks release later before are in_boot (Event.Claim 0 wanted note answer) e in
-      let held : a.0 ≡ wants = same_Some a.0 wants (sym a.1.held_is ∙ held_so c opening past files wanting 0 legal idle told request (Some entry) blocks release later before are in_boot) in
+      let a = let_so c past files wanting 0 legal idle told request (Some entry) blocks release later before are in_boot (Event.Claim 0 wanted note answer) e in
+      let held : a.0 ≡ wants = same_Some a.0 wants (sym a.1.held_is ∙ held_so c past files wanting 0 legal idle told request (Some entry) blocks release later before are in_boot) in
       let bad : Some entry ≡ None = ap (λ (h : Held). h.pending) (sym held) ∙ a.1.pending in
       cc
 
-  resumed-so : (row : ℕ) (fetched : Option FetchNote) (answer : ResumeAnswer) (stored : Stored) → ends.event ≡ Event.Resume 0 row fetched answer stored → IsResumed c.facts opening files (off past) entry request release waited later
+  resumed-so : (row : ℕ) (fetched : Option FetchNote) (answer : ResumeAnswer) (stored : Stored) → ends.event ≡ Event.Resume 0 row fetched answer stored → IsResumed c.basis files (off past) entry request release waited later
   resumed-so row (Some note) answer stored e = resumed row note answer stored e
   resumed-so row None answer stored e = not-refused row answer stored _ e
 
-  row-comes : IsResumed c.facts opening files (off past) entry request release waited later ⊎ IsGivenUp (off past) wanting 0 waited later
+  row-comes : IsResumed c.basis files (off past) entry request release waited later ⊎ IsGivenUp (off past) wanting 0 waited later
   row-comes = on ends.event refl ends.lets
     where
-      on : (event : Event) → ends.event ≡ event → lets_go 0 event ≡ true → IsResumed c.facts opening files (off past) entry request release waited later ⊎ IsGivenUp (off past) wanting 0 waited later
+      on : (event : Event) → ends.event ≡ event → lets_go 0 event ≡ true → IsResumed c.basis files (off past) entry request release waited later ⊎ IsGivenUp (off past) wanting 0 waited later
       on (Event.Claim other wanted note answer) e t =
           not-claimed wanted note answer _ (e ∙ ap (λ (n : ℕ). Event.Claim n wanted note answer) (eqb-true other 0 t))
       on (Event.Resume other row fetched answer stored) e t =
           inl (resumed-so row fetched answer stored (e ∙ ap (λ (n : ℕ). Event.Resume n row fetched answer stored) (eqb-true other 0 t)))
-      on (Event.GiveBack other what) e t = inr (given-up c opening past files wanting 0 legal idle told request (Some entry) blocks release later before are in_boot what (e ∙ ap (λ (n : ℕ). Event.GiveBack n what) (eqb-true other 0 t)))
+      on (Event.GiveBack other what) e t = inr (given-up c past files wanting 0 legal idle told request (Some entry) blocks release later before are in_boot what (e ∙ ap (λ (n : ℕ). Event.GiveBack n what) (eqb-true other 0 t)))
       on _ e t = cc
 
 -- ---- the three kinds of request
 
 -- An install that was asked for.
-pub install-comes : (c : Campaign) (opening : List Row) (past : List Event) (files : Files) (wanting : Bool) (client : ℕ) → IsLegal c opening past → EndsIdle past → AllTold c.facts files (WasStopped (off past) wanting) None (mine client past)
-    → (request : Request) (answer : AskAnswer) (stands : InBoot past (Event.Ask client request None answer)) → 0 < client → IsAccept (verdict c.facts opening stands.before client request Stage.Ask) → InstallComes wanting c.facts opening files past client request answer stands
-install-comes c opening past files wanting client legal idle told request answer stands above accept =
-    let allowed : AskAllowed c.facts opening stands.before client request None answer = legal-at c opening stands.later (Event.Ask client request None answer) stands.before (subst (IsLegal c opening) stands.are legal) in
-    let h = accepted-hold (verdict c.facts opening stands.before client request Stage.Ask) answer accept allowed.answer_is in
+pub install-comes : (c : Campaign) (past : List Event) (files : Files) (wanting : Bool) (client : ℕ) → IsLegal c past → EndsIdle past → AllTold c.basis.facts files (WasStopped (off past) wanting) None (mine client past)
+    → (request : Request) (answer : AskAnswer) (stands : InBoot past (Event.Ask client request None answer)) → 0 < client → IsAccept (verdict c.basis stands.before client request Stage.Ask) → InstallComes wanting c.basis files past client request answer stands
+install-comes c past files wanting client legal idle told request answer stands above accept =
+    let allowed : AskAllowed c.basis stands.before client request None answer = legal-at c stands.later (Event.Ask client request None answer) stands.before (subst (IsLegal c) stands.are legal) in
+    let h = accepted-hold (verdict c.basis stands.before client request Stage.Ask) answer accept allowed.answer_is in
     record {
       blocks = h.0;
       release = h.1;
       answer_is = h.2;
-      comes = subst (λ (x : AskAnswer). IsClaimed c.facts opening files (off past) client request h.1 (Event.Ask client request None x ∷ stands.before) stands.later ⊎ IsGivenUp (off past) wanting client (Event.Ask client request None x ∷ stands.before) stands.later) (sym h.2)
-          (client-comes c opening past files wanting client legal idle told request None h.0 h.1 stands.later stands.before
+      comes = subst (λ (x : AskAnswer). IsClaimed c.basis files (off past) client request h.1 (Event.Ask client request None x ∷ stands.before) stands.later ⊎ IsGivenUp (off past) wanting client (Event.Ask client request None x ∷ stands.before) stands.later) (sym h.2)
+          (client-comes c past files wanting client legal idle told request None h.0 h.1 stands.later stands.before
           (stands.are ∙ ap (λ (x : AskAnswer). stands.later ++ Event.Ask client request None x ∷ stands.before) h.2) stands.in_boot above);
     }
 
 -- A row that waited for the boot.
-pub resumption-comes : (c : Campaign) (opening : List Row) (past : List Event) (files : Files) (wanting : Bool) → IsLegal c opening past → EndsIdle past → AllTold c.facts files (WasStopped (off past) wanting) None (mine 0 past)
-    → (entry : ℕ) (request : Request) (answer : AskAnswer) (stands : InBoot past (Event.Ask 0 request (Some entry) answer)) → IsAccept (verdict c.facts opening stands.before 0 request (Stage.AskPending entry)) → ResumptionComes wanting c.facts opening files past entry request answer stands
-resumption-comes c opening past files wanting legal idle told entry request answer stands accept =
-    let allowed : AskAllowed c.facts opening stands.before 0 request (Some entry) answer = legal-at c opening stands.later (Event.Ask 0 request (Some entry) answer) stands.before (subst (IsLegal c opening) stands.are legal) in
-    let h = accepted-hold (verdict c.facts opening stands.before 0 request (Stage.AskPending entry)) answer accept allowed.answer_is in
+pub resumption-comes : (c : Campaign) (past : List Event) (files : Files) (wanting : Bool) → IsLegal c past → EndsIdle past → AllTold c.basis.facts files (WasStopped (off past) wanting) None (mine 0 past)
+    → (entry : ℕ) (request : Request) (answer : AskAnswer) (stands : InBoot past (Event.Ask 0 request (Some entry) answer)) → IsAccept (verdict c.basis stands.before 0 request (Stage.AskPending entry)) → ResumptionComes wanting c.basis files past entry request answer stands
+resumption-comes c past files wanting legal idle told entry request answer stands accept =
+    let allowed : AskAllowed c.basis stands.before 0 request (Some entry) answer = legal-at c stands.later (Event.Ask 0 request (Some entry) answer) stands.before (subst (IsLegal c) stands.are legal) in
+    let h = accepted-hold (verdict c.basis stands.before 0 request (Stage.AskPending entry)) answer accept allowed.answer_is in
     record {
       blocks = h.0;
       release = h.1;
       answer_is = h.2;
-      comes = subst (λ (x : AskAnswer). IsResumed c.facts opening files (off past) entry request h.1 (Event.Ask 0 request (Some entry) x ∷ stands.before) stands.later ⊎ IsGivenUp (off past) wanting 0 (Event.Ask 0 request (Some entry) x ∷ stands.before) stands.later) (sym h.2)
-          (row-comes c opening past files wanting legal idle told entry request h.0 h.1 stands.later stands.before
+      comes = subst (λ (x : AskAnswer). IsResumed c.basis files (off past) entry request h.1 (Event.Ask 0 request (Some entry) x ∷ stands.before) stands.later ⊎ IsGivenUp (off past) wanting 0 (Event.Ask 0 request (Some entry) x ∷ stands.before) stands.later) (sym h.2)
+          (row-comes c past files wanting legal idle told entry request h.0 h.1 stands.later stands.before
           (stands.are ∙ ap (λ (x : AskAnswer). stands.later ++ Event.Ask 0 request (Some entry) x ∷ stands.before) h.2) stands.in_boot);
     }
 
@@ -313,31 +313,31 @@ answered-off next (Decision.Accept device release blocks) answer a h = h
 answered-off next (Decision.Kept entry state) answer a h = cc
 answered-off next (Decision.Refused refusal) answer a h = cc
 
-pub put-off : (c : Campaign) (opening : List Row) (past : List Event) → IsLegal c opening past → (client : ℕ) (request : Request) (answer : ClaimAnswer) (stands : InBoot past (Event.Schedule client request answer))
-    → IsAccept (verdict c.facts opening stands.before client request Stage.Schedule) → PutsOff c.facts opening (off past) client request answer stands.before
-put-off c opening past legal client request answer stands accept = by (answered-off (next_entry c.facts opening stands.before) (verdict c.facts opening stands.before client request Stage.Schedule) answer accept allowed.answer_is)
+pub put-off : (c : Campaign) (past : List Event) → IsLegal c past → (client : ℕ) (request : Request) (answer : ClaimAnswer) (stands : InBoot past (Event.Schedule client request answer))
+    → IsAccept (verdict c.basis stands.before client request Stage.Schedule) → PutsOff c.basis (off past) client request answer stands.before
+put-off c past legal client request answer stands accept = by (answered-off (next_entry c.basis stands.before) (verdict c.basis stands.before client request Stage.Schedule) answer accept allowed.answer_is)
   where
-    allowed : ScheduleAllowed c.facts opening stands.before client request answer
-    allowed = legal-at c opening stands.later (Event.Schedule client request answer) stands.before (subst (IsLegal c opening) stands.are legal)
+    allowed : ScheduleAllowed c.basis stands.before client request answer
+    allowed = legal-at c stands.later (Event.Schedule client request answer) stands.before (subst (IsLegal c) stands.are legal)
 
-    stored : answer ≡ ClaimAnswer.Entry (next_entry c.facts opening stands.before) → IsPutOff c.facts opening stands.before client request (Event.Schedule client request answer)
+    stored : answer ≡ ClaimAnswer.Entry (next_entry c.basis stands.before) → IsPutOff c.basis stands.before client request (Event.Schedule client request answer)
     stored e =
-        let t = off-facts c.facts opening stands.before client request accept in
-        let row : Row = new_row (length (rows c.facts opening stands.before) + 1) (time_of stands.before) client request RowState.Pending t.0 in
-        let change : addition c.facts (time_of stands.before) (live stands.before) (known c.facts opening stands.before) client request RowState.Pending ≡ Some (Change.Add row) =
-        ap (λ (o : Option Target). option_map (λ (u : Target). Change.Add (new_row (length (rows c.facts opening stands.before) + 1) (time_of stands.before) client request RowState.Pending u)) o) t.1.found in
-        let added : rows c.facts opening (Event.Schedule client request (ClaimAnswer.Entry (next_entry c.facts opening stands.before)) ∷ stands.before) ≡ rows c.facts opening stands.before ++ row ∷ [] =
-        ap (λ (o : Option Change). rows_by Fate.Made o (rows c.facts opening stands.before)) change in
+        let t = off-facts c.basis stands.before client request accept in
+        let row : Row = new_row (length (rows c.basis stands.before) + 1) (time_of stands.before) client request RowState.Pending t.0 in
+        let change : addition c.basis.facts (time_of stands.before) (live stands.before) (known c.basis stands.before) client request RowState.Pending ≡ Some (Change.Add row) =
+        ap (λ (o : Option Target). option_map (λ (u : Target). Change.Add (new_row (length (rows c.basis stands.before) + 1) (time_of stands.before) client request RowState.Pending u)) o) t.1.found in
+        let added : rows c.basis (Event.Schedule client request (ClaimAnswer.Entry (next_entry c.basis stands.before)) ∷ stands.before) ≡ rows c.basis stands.before ++ row ∷ [] =
+        ap (λ (o : Option Change). rows_by Fate.Made o (rows c.basis stands.before)) change in
         record {
           row = row;
-          rows_are = ap (λ (x : ClaimAnswer). rows c.facts opening (Event.Schedule client request x ∷ stands.before)) e ∙ added;
+          rows_are = ap (λ (x : ClaimAnswer). rows c.basis (Event.Schedule client request x ∷ stands.before)) e ∙ added;
           entry_is = refl;
           waits = refl;
           client_is = refl;
           tag_is = refl;
         }
 
-    by : (answer ≡ ClaimAnswer.Entry (next_entry c.facts opening stands.before)) ⊎ (answer ≡ ClaimAnswer.Refused Refusal.KeeperFault) → PutsOff c.facts opening (off past) client request answer stands.before
+    by : (answer ≡ ClaimAnswer.Entry (next_entry c.basis stands.before)) ⊎ (answer ≡ ClaimAnswer.Refused Refusal.KeeperFault) → PutsOff c.basis (off past) client request answer stands.before
     by (inl e) = inl (e, stored e)
     by (inr e) =
         inr (

@@ -7,10 +7,8 @@ use Rattle.block_pool.specs.Views.{SealedBytes}
 use Rattle.emulated_boards.specs.Boards.{BoardState}
 use Rattle.plugin_trait.specs.Steps.{PluginSteps}
 use Rattle.outer_traits.specs.Faults.{Rose}
-use Rattle.history_keeper.specs.declared.row.Row.{Row}
 use Rattle.update_log.proofs.Lists.{by_test}
 use Rattle.update_log.specs.declared.event.Event.{Event}
-use Rattle.update_log.specs.declared.facts.Facts.{Facts}
 use Rattle.update_log.specs.declared.refusal.FetchNote.{FetchNote}
 use Rattle.update_log.specs.declared.request.Request.{Request}
 use Rattle.daemon_core.specs.declared.fetched.Fetched.{Fetched}
@@ -24,6 +22,7 @@ use Rattle.client_plays.specs.Moments.{Moment}
 use Rattle.client_plays.specs.Plays.{Alone, GivesBack, InstallPlays, Leaves, Plays, SchedulePlays, StepsPlay, TaskPlays, ToJudge, UpdatePlays}
 use Rattle.client_plays.specs.Scripts.{PlayedSo, PlaysAll, PlaysOne, PlaysUntil}
 use Rattle.client_plays.specs.Tools.{Means}
+use Rattle.update_log.specs.Known.{Basis}
 
 -- ---- counts
 
@@ -114,8 +113,8 @@ quiet-steps steps client entry payload board (m ∷ n ∷ moments) u =
     quiet-more m (n ∷ moments) (ap tells_shelf_fault u.1.started_is)
     (quiet-more n moments (ap tells_shelf_fault u.1.ended_is) (quiet-steps steps client entry payload u.0 moments u.2))
 
-pub quiet-update : (facts : Facts) (opening : List Row) (plugins : ℕ → PluginSteps) (client entry : ℕ) (taken : List Event) → TellsNone (UpdatePlays facts opening plugins client entry taken)
-quiet-update facts opening plugins client entry taken moments u =
+pub quiet-update : (basis : Basis) (plugins : ℕ → PluginSteps) (client entry : ℕ) (taken : List Event) → TellsNone (UpdatePlays basis plugins client entry taken)
+quiet-update basis plugins client entry taken moments u =
     quiet-steps (plugins u.place) client entry u.payload u.board moments u.plays
 
 quiet-back : (client : ℕ) → TellsNone (GivesBack client)
@@ -148,22 +147,22 @@ abbrev pub fetches : Item → Bool
 fetches (Item.Install request) = not request.flags.offline
 fetches _ = false
 
-quiet-schedule : (facts : Facts) (opening : List Row) (means : Means) (client : ℕ) (request : Request) (offline : Bool) → not offline ≡ false → TellsNone (λ moments. MatchBool offline (Alone (SchedulePlays client request) moments) (InstallPlays facts opening means client request moments))
-quiet-schedule facts opening means client request true e moments p = quiet-alone (SchedulePlays client request) (λ m s. ap tells_shelf_fault s.1) moments p
-quiet-schedule facts opening means client request false e moments p = cc
+quiet-schedule : (basis : Basis) (means : Means) (client : ℕ) (request : Request) (offline : Bool) → not offline ≡ false → TellsNone (λ moments. MatchBool offline (Alone (SchedulePlays client request) moments) (InstallPlays basis means client request moments))
+quiet-schedule basis means client request true e moments p = quiet-alone (SchedulePlays client request) (λ m s. ap tells_shelf_fault s.1) moments p
+quiet-schedule basis means client request false e moments p = cc
 
-pub quiet-item : (facts : Facts) (opening : List Row) (means : Means) (client : ℕ) (item : Item) → fetches item ≡ false → TellsNone (Plays facts opening means client item)
-quiet-item facts opening means client (Item.Ask query) e moments p = quiet-alone _ (λ m s. ap tells_shelf_fault s) moments p
-quiet-item facts opening means client (Item.Install request) e moments p = quiet-schedule facts opening means client request request.flags.offline e moments p
-quiet-item facts opening means client (Item.Settle selector) e moments p =
+pub quiet-item : (basis : Basis) (means : Means) (client : ℕ) (item : Item) → fetches item ≡ false → TellsNone (Plays basis means client item)
+quiet-item basis means client (Item.Ask query) e moments p = quiet-alone _ (λ m s. ap tells_shelf_fault s) moments p
+quiet-item basis means client (Item.Install request) e moments p = quiet-schedule basis means client request request.flags.offline e moments p
+quiet-item basis means client (Item.Settle selector) e moments p =
     quiet-alone _ (λ m s. elim s [ inl judged ↦ ap tells_shelf_fault judged.event_is | inr asked ↦ ap tells_shelf_fault asked ]) moments p
-quiet-item facts opening means client (Item.Unplug selector) e moments p = quiet-alone _ (λ m s. ap tells_shelf_fault s.1) moments p
-quiet-item facts opening means client (Item.Plug selector) e moments p = quiet-alone _ (λ m s. ap tells_shelf_fault s.1) moments p
+quiet-item basis means client (Item.Unplug selector) e moments p = quiet-alone _ (λ m s. ap tells_shelf_fault s.1) moments p
+quiet-item basis means client (Item.Plug selector) e moments p = quiet-alone _ (λ m s. ap tells_shelf_fault s.1) moments p
 
 -- ---- lists of things
 
-pub quiet-judge : (facts : Facts) (opening : List Row) (means : Means) (entry : ℕ) → TellsNone (TaskPlays facts opening means (ToJudge entry))
-quiet-judge facts opening means entry moments p = quiet-alone _ (λ m s. ap tells_shelf_fault s.3) moments p
+pub quiet-judge : (basis : Basis) (means : Means) (entry : ℕ) → TellsNone (TaskPlays basis means (ToJudge entry))
+quiet-judge basis means entry moments p = quiet-alone _ (λ m s. ap tells_shelf_fault s.3) moments p
 
 module _ {X : Type 0} (wanting : Bool) (client : ℕ) (Play : X → List Moment → Type 0) where
   quiet-some : (w : Bool) (x : X) → TellsNone (Play x) → TellsNone (PlaysOne w client Play x)

@@ -4,7 +4,6 @@ use Rattle.std.proofs.lemmas.Bool.{eqb-true}
 use Rattle.std.proofs.lemmas.Option.{same_Some}
 use Rattle.std.specs.List.{cons_option, filter_map, list_any}
 use Rattle.std.specs.Prelude.{Option, Some, None, slice_get, if◌then◌else◌}
-use Rattle.history_keeper.specs.declared.row.Row.{Row}
 use Rattle.update_log.proofs.Lists.{by_test}
 use Rattle.update_log.specs.declared.answer.AskAnswer.{AskAnswer}
 use Rattle.update_log.specs.declared.answer.ClaimAnswer.{ClaimAnswer}
@@ -137,9 +136,9 @@ ended-whole is_off next newer note answer e (inl t) =
 ended-whole is_off next newer note answer e (inr (inl t)) = let bad : true ≡ false = sym t.1 ∙ e in cc
 ended-whole is_off next newer note answer e (inr (inr t)) = inr t
 
-module _ (c : Campaign) (opening : List Row) (files : ℕ → Files) (past : List Event) (client : ℕ) (request : Request) (on : off past ≡ false) where
-  finished : (answer : AskAnswer) (stands : InBoot past (Event.Ask client request None answer)) → InstallComes false c.facts opening (files client) past client request answer stands
-      → IsFinished c.facts opening (files client) client request (Event.Ask client request None answer ∷ stands.before) stands.later
+module _ (c : Campaign) (files : ℕ → Files) (past : List Event) (client : ℕ) (request : Request) (on : off past ≡ false) where
+  finished : (answer : AskAnswer) (stands : InBoot past (Event.Ask client request None answer)) → InstallComes false c.basis (files client) past client request answer stands
+      → IsFinished c.basis (files client) client request (Event.Ask client request None answer ∷ stands.before) stands.later
   finished answer stands i =
       elim i.comes [
         | inl k ↦
@@ -148,7 +147,7 @@ module _ (c : Campaign) (opening : List Row) (files : ℕ → Files) (past : Lis
               note = k.note;
               answer = k.answer;
               next = k.next;
-              finished = λ accept there. ended-whole (off past) (next_entry c.facts opening (k.next.between ++ Event.Ask client request None answer ∷ stands.before)) k.next.newer k.note k.answer on (k.installs accept there);
+              finished = λ accept there. ended-whole (off past) (next_entry c.basis (k.next.between ++ Event.Ask client request None answer ∷ stands.before)) k.next.newer k.note k.answer on (k.installs accept there);
             }
         | inr g ↦
             elim g.cause [
@@ -157,8 +156,8 @@ module _ (c : Campaign) (opening : List Row) (files : ℕ → Files) (past : Lis
             ]
       ]
 
-  pub install-finishes : (of_boot : List (List Item)) (number : ℕ) → BootCompletes false c.facts opening files of_boot past → 0 < client → slice_get (items_of of_boot client) number ≡ Some (Item.Install request) → request.flags.offline ≡ false
-      → InstallFinishes c.facts opening (files client) client request past
+  pub install-finishes : (of_boot : List (List Item)) (number : ℕ) → BootCompletes false c.basis files of_boot past → 0 < client → slice_get (items_of of_boot client) number ≡ Some (Item.Install request) → request.flags.offline ≡ false
+      → InstallFinishes c.basis (files client) client request past
   install-finishes of_boot number b above there now =
       let wanted : Among (Now request) (installs_wanted (items_of of_boot client)) =
       among-place wanted_by (items_of of_boot client) number (Item.Install request) (Now request) there (ap (λ (offline : Bool). Some (if offline then AtBoot request else Now request)) now) in
@@ -175,9 +174,9 @@ module _ (c : Campaign) (opening : List Row) (files : ℕ → Files) (past : Lis
         goes_on = λ accept. finished a.answer stands (b.installs client request a.answer stands above accept);
       }
 
-pub installs-finish : (c : Campaign) (opening : List Row) (means : ℕ → Means) (of_boot : List (List Item)) (past : List Event) (client number : ℕ) (request : Request)
-    → IsLegal c opening past → BootPlayed false c.facts opening means of_boot past → off past ≡ false → 0 < client
+pub installs-finish : (c : Campaign) (means : ℕ → Means) (of_boot : List (List Item)) (past : List Event) (client number : ℕ) (request : Request)
+    → IsLegal c past → BootPlayed false c.basis means of_boot past → off past ≡ false → 0 < client
     → slice_get (items_of of_boot client) number ≡ Some (Item.Install request) → request.flags.offline ≡ false
-    → InstallFinishes c.facts opening (means client).files client request past
-installs-finish c opening means of_boot past client number request legal played on above there now =
-    install-finishes c opening (λ n. (means n).files) past client request on of_boot number (boot-completes false c opening means of_boot past legal played) above there now
+    → InstallFinishes c.basis (means client).files client request past
+installs-finish c means of_boot past client number request legal played on above there now =
+    install-finishes c (λ n. (means n).files) past client request on of_boot number (boot-completes false c means of_boot past legal played) above there now

@@ -4,8 +4,7 @@ use Rattle.std.proofs.lemmas.Bool.{eqb-true, eq-eqb, or_parts}
 use Rattle.std.specs.Prelude.{Some, None, ◌==◌, find, not}
 use Rattle.std.specs.List.{list_any, AllByRecursion}
 use Rattle.daemon_core.proofs.ClaimOpen.{live-push}
-use Rattle.history_keeper.specs.declared.row.Row.{Row}
-use Rattle.update_log.proofs.CoreTraces.{turned}
+use Rattle.update_log.proofs.Lists.{turned}
 use Rattle.update_log.proofs.Lists.{All-both, All-filter, All-map, All-push, by_test}
 use Rattle.update_log.specs.declared.answer.ClaimAnswer.{ClaimAnswer}
 use Rattle.update_log.specs.declared.answer.ResumeAnswer.{ResumeAnswer}
@@ -52,15 +51,15 @@ abbrev LiveStep : Event → List Event → ℕ → Type 0
 LiveStep event past entry =
     (is_live (live (event ∷ past)) entry ≡ true) ⊎ ((finishes entry event ≡ true) ⊎ ((off past ≡ true) × (gives_back entry event ≡ true)))
 
-live-step : (c : Campaign) (opening : List Row) (past : List Event) (event : Event) (entry : ℕ) → Allowed c opening past event → is_boot event ≡ false → is_live (live past) entry ≡ true → LiveStep event past entry
-live-step c opening past (Event.Boot number time limit found boards) entry a b l = cc
-live-step c opening past (Event.Claim client request fetched (ClaimAnswer.Entry taken)) entry a b l = inl (live-push (live past) _ entry l)
-live-step c opening past (Event.Resume client taken fetched ResumeAnswer.Begun stored) entry a b l = inl (live-push (live past) _ entry l)
-live-step c opening past (Event.Finish client done state stored) entry a b l =
+live-step : (c : Campaign) (past : List Event) (event : Event) (entry : ℕ) → Allowed c past event → is_boot event ≡ false → is_live (live past) entry ≡ true → LiveStep event past entry
+live-step c past (Event.Boot number time limit found boards) entry a b l = cc
+live-step c past (Event.Claim client request fetched (ClaimAnswer.Entry taken)) entry a b l = inl (live-push (live past) _ entry l)
+live-step c past (Event.Resume client taken fetched ResumeAnswer.Begun stored) entry a b l = inl (live-push (live past) _ entry l)
+live-step c past (Event.Finish client done state stored) entry a b l =
     by_test (entry == done) _ (λ t. inr (inl (flip-eqb entry done t))) (λ f. inl (live-without done (live past) entry f l))
-live-step c opening past (Event.GiveBack client (Back.Entry given)) entry a b l =
+live-step c past (Event.GiveBack client (Back.Entry given)) entry a b l =
     by_test (entry == given) _ (λ t. inr (inr (a.3, flip-eqb entry given t))) (λ f. inl (live-without given (live past) entry f l))
-live-step c opening past _ entry a b l = inl l
+live-step c past _ entry a b l = inl l
 
 -- An entry that was taken is live.
 taken-live : (event : Event) (past : List Event) (entry : ℕ) → takes entry event ≡ true → is_live (live (event ∷ past)) entry ≡ true
@@ -90,16 +89,16 @@ ended-before event later was is_off entry h (inl f) = inl (rw f (or-true (finish
 ended-before event later was is_off entry h (inr g) = inr (h g.0, rw g.1 (or-true (gives_back entry event)))
 
 -- Since an event took it, an entry is live, or was ended.
-taken-ends : (c : Campaign) (opening : List Row) (later : List Event) (event : Event) (before : List Event) (entry : ℕ) → IsLegal c opening (later ++ event ∷ before) → list_any is_boot later ≡ false → takes entry event ≡ true
+taken-ends : (c : Campaign) (later : List Event) (event : Event) (before : List Event) (entry : ℕ) → IsLegal c (later ++ event ∷ before) → list_any is_boot later ≡ false → takes entry event ≡ true
     → (is_live (live (later ++ event ∷ before)) entry ≡ true) ⊎ IsEndedBy (off (later ++ event ∷ before)) entry later
-taken-ends c opening [] event before entry l b t = inl (taken-live event before entry t)
-taken-ends c opening (e ∷ later) event before entry l b t =
+taken-ends c [] event before entry l b t = inl (taken-live event before entry t)
+taken-ends c (e ∷ later) event before entry l b t =
     let p = or_parts (is_boot e) (list_any is_boot later) b in
     let past = later ++ event ∷ before in
     let stays : off past ≡ true → off (e ∷ past) ≡ true = off-stays e past p.0 in
-    elim (taken-ends c opening later event before entry l.0 p.1 t) [
+    elim (taken-ends c later event before entry l.0 p.1 t) [
       | inl alive ↦
-          elim (live-step c opening past e entry l.2 p.0 alive) [
+          elim (live-step c past e entry l.2 p.0 alive) [
             | inl still ↦ inl still
             | inr ended ↦ inr (ended-here e later (off past) (off (e ∷ past)) entry stays ended)
           ]
@@ -112,9 +111,9 @@ taken-ends c opening (e ∷ later) event before entry l b t =
 abbrev IsHeldStep : List Event → OpenStep → Type 0
 IsHeldStep past s = (is_live (live past) s.entry ≡ true) ⊎ IsGivenBack past s.entry
 
-step-stays : (c : Campaign) (opening : List Row) (past : List Event) (event : Event) (s : OpenStep) → Allowed c opening past event → is_boot event ≡ false → finishes s.entry event ≡ false → IsHeldStep past s → IsHeldStep (event ∷ past) s
-step-stays c opening past event s a b f (inl alive) =
-    elim (live-step c opening past event s.entry a b alive) [
+step-stays : (c : Campaign) (past : List Event) (event : Event) (s : OpenStep) → Allowed c past event → is_boot event ≡ false → finishes s.entry event ≡ false → IsHeldStep past s → IsHeldStep (event ∷ past) s
+step-stays c past event s a b f (inl alive) =
+    elim (live-step c past event s.entry a b alive) [
       | inl still ↦ inl still
       | inr ended ↦
           elim ended [
@@ -122,12 +121,12 @@ step-stays c opening past event s a b f (inl alive) =
             | inr back ↦ inr (record { is_off = off-stays event past b back.0; given = given-here event past s.entry b back.1 })
           ]
     ]
-step-stays c opening past event s a b f (inr g) =
+step-stays c past event s a b f (inr g) =
     inr (record { is_off = off-stays event past b g.is_off; given = given-stays event past s.entry b g.given })
 
-all-stay : (c : Campaign) (opening : List Row) (past : List Event) (event : Event) → Allowed c opening past event → is_boot event ≡ false → ((entry : ℕ) → finishes entry event ≡ false) → AllByRecursion (IsHeldStep past) (open_steps past) → AllByRecursion (IsHeldStep (event ∷ past)) (open_steps past)
-all-stay c opening past event a b f k =
-    All-map (IsHeldStep past) (IsHeldStep (event ∷ past)) (open_steps past) k (λ s h. step-stays c opening past event s a b (f s.entry) h)
+all-stay : (c : Campaign) (past : List Event) (event : Event) → Allowed c past event → is_boot event ≡ false → ((entry : ℕ) → finishes entry event ≡ false) → AllByRecursion (IsHeldStep past) (open_steps past) → AllByRecursion (IsHeldStep (event ∷ past)) (open_steps past)
+all-stay c past event a b f k =
+    All-map (IsHeldStep past) (IsHeldStep (event ∷ past)) (open_steps past) k (λ s h. step-stays c past event s a b (f s.entry) h)
 
 none-found : (entry : ℕ) (steps : List OpenStep) → find (λ (s : OpenStep). s.entry == entry) steps ≡ None → AllByRecursion (λ (s : OpenStep). (s.entry == entry) ≡ false) steps
 none-found entry [] e = tt
@@ -136,24 +135,24 @@ none-found entry (s ∷ steps) e =
     (λ t. let bad : Some s ≡ None = rw t at e in cc)
     (λ f. (f, none-found entry steps (rw f at e)))
 
-steps-after : (c : Campaign) (opening : List Row) (past : List Event) (event : Event) → Allowed c opening past event → AllByRecursion (IsHeldStep past) (open_steps past) → AllByRecursion (IsHeldStep (event ∷ past)) (open_steps (event ∷ past))
-steps-after c opening past (Event.Boot number time limit found boards) a k = tt
-steps-after c opening past (Event.Start client started op) a k =
+steps-after : (c : Campaign) (past : List Event) (event : Event) → Allowed c past event → AllByRecursion (IsHeldStep past) (open_steps past) → AllByRecursion (IsHeldStep (event ∷ past)) (open_steps (event ∷ past))
+steps-after c past (Event.Boot number time limit found boards) a k = tt
+steps-after c past (Event.Start client started op) a k =
     let event = Event.Start client started op in
-    All-push (IsHeldStep (event ∷ past)) (open_steps past) (record { client = client; entry = started; op = op }) (all-stay c opening past event a refl (λ entry. refl) k)
+    All-push (IsHeldStep (event ∷ past)) (open_steps past) (record { client = client; entry = started; op = op }) (all-stay c past event a refl (λ entry. refl) k)
     (inl (live-found (live past) started a.0 a.1.live))
-steps-after c opening past (Event.End client ended op outcome told seen) a k =
+steps-after c past (Event.End client ended op outcome told seen) a k =
     let event = Event.End client ended op outcome told seen in
-    All-filter (IsHeldStep past) (IsHeldStep (event ∷ past)) (λ (s : OpenStep). not (s.entry == ended)) (open_steps past) k (λ s h _. step-stays c opening past event s a refl refl h)
-steps-after c opening past (Event.Finish client done state stored) a k =
+    All-filter (IsHeldStep past) (IsHeldStep (event ∷ past)) (λ (s : OpenStep). not (s.entry == ended)) (open_steps past) k (λ s h _. step-stays c past event s a refl refl h)
+steps-after c past (Event.Finish client done state stored) a k =
     let event = Event.Finish client done state stored in
     All-both (IsHeldStep past) (λ (s : OpenStep). (s.entry == done) ≡ false) (IsHeldStep (event ∷ past)) (open_steps past) k (none-found done (open_steps past) a.2.open_none)
-    (λ s h n. step-stays c opening past event s a refl (turned s.entry done n) h)
-steps-after c opening past event a k = all-stay c opening past event a refl (λ entry. refl) k
+    (λ s h n. step-stays c past event s a refl (turned s.entry done n) h)
+steps-after c past event a k = all-stay c past event a refl (λ entry. refl) k
 
-steps-held : (c : Campaign) (opening : List Row) (past : List Event) → IsLegal c opening past → AllByRecursion (IsHeldStep past) (open_steps past)
-steps-held c opening [] l = tt
-steps-held c opening (event ∷ past) l = steps-after c opening past event l.2 (steps-held c opening past l.0)
+steps-held : (c : Campaign) (past : List Event) → IsLegal c past → AllByRecursion (IsHeldStep past) (open_steps past)
+steps-held c [] l = tt
+steps-held c (event ∷ past) l = steps-after c past event l.2 (steps-held c past l.0)
 
 -- ---- the end of a boot
 
@@ -163,24 +162,24 @@ not-live past entry G n l = let bad : is_live [] entry ≡ true = subst (λ (xs 
 no-blocks : (past : List Event) → IsIdle past → held past ≡ 0
 no-blocks past i = ap (λ (hs : List Held). blocks_out hs (live past)) i.no_hold ∙ ap (λ (ls : List LiveEntry). blocks_out [] ls) i.no_live
 
-ends-so : (c : Campaign) (opening : List Row) (past : List Event) (entry : ℕ) (t : Taking past entry) → IsLegal c opening past → live past ≡ [] → IsEndedBy (off past) entry t.later
-ends-so c opening past entry t l n =
+ends-so : (c : Campaign) (past : List Event) (entry : ℕ) (t : Taking past entry) → IsLegal c past → live past ≡ [] → IsEndedBy (off past) entry t.later
+ends-so c past entry t l n =
     let whole : List Event = t.later ++ t.event ∷ t.before in
     let so : (is_live (live past) entry ≡ true) ⊎ IsEndedBy (off past) entry t.later =
     subst (λ (p : List Event). (is_live (live p) entry ≡ true) ⊎ IsEndedBy (off p) entry t.later) (sym t.are)
-    (taken-ends c opening t.later t.event t.before entry (subst (IsLegal c opening) t.are l) t.in_boot t.takes_it)
+    (taken-ends c t.later t.event t.before entry (subst (IsLegal c) t.are l) t.in_boot t.takes_it)
     in
     elim so [ inl alive ↦ not-live past entry _ n alive | inr ended ↦ ended ]
 
-pub ends-idle : (c : Campaign) (opening : List Row) (past : List Event) → IsLegal c opening past → IsIdle past → EndsIdle past
-ends-idle c opening past l i =
+pub ends-idle : (c : Campaign) (past : List Event) → IsLegal c past → IsIdle past → EndsIdle past
+ends-idle c past l i =
     record {
       no_hold = i.no_hold;
       no_live = i.no_live;
       no_blocks = no-blocks past i;
-      steps = All-map (IsHeldStep past) (λ (s : OpenStep). IsGivenBack past s.entry) (open_steps past) (steps-held c opening past l)
+      steps = All-map (IsHeldStep past) (λ (s : OpenStep). IsGivenBack past s.entry) (open_steps past) (steps-held c past l)
           (λ s h. elim h [ inl alive ↦ not-live past s.entry _ i.no_live alive | inr back ↦ back ]);
-      ended = λ entry t. ends-so c opening past entry t l i.no_live;
+      ended = λ entry t. ends-so c past entry t l i.no_live;
     }
 
 -- In a boot that has just begun nothing was done.

@@ -2,12 +2,12 @@
 use Rattle.std.proofs.Common.{◌≡◌, ◌⊎◌, ℕ, ◌<◌, Bool, true, false, List, [], ◌∷◌, ◌++◌, refl, ap, sym, ◌∙◌, subst, inl, inr, arith}
 use Rattle.std.specs.List.{list_any}
 use Rattle.history_keeper.specs.declared.row.Row.{Row}
+use Rattle.history_keeper.specs.Signs.{KeeperSigns}
 use Rattle.update_log.specs.Pasts.{boots, is_boot}
 use Rattle.update_log.specs.declared.event.Event.{Event}
 use Rattle.update_log.proofs.Lists.{by_test}
 use Rattle.daemon_core.specs.HouseLog.{SameFacts}
 use Rattle.daemon_core.specs.Housed.{HouseLogView, Housed, past, rows_before, rows_taken}
-use Rattle.daemon_core.specs.Turns.{Signs}
 use Rattle.daemon_core.proofs.Fared.{fared-both, fared-here}
 use Rattle.daemon_core.proofs.Planned.{keeps-both, keeps-here}
 use Rattle.daemon_core.specs.Keeping.{last_faulted}
@@ -27,7 +27,7 @@ same-both old mid new a b =
       reopened = b.reopened ∙ a.reopened;
     }
 
-pub rest-both : {K : Type 0} (signs : Signs K) (old mid new : Housed K) → AtRest signs old mid → AtRest signs mid new → AtRest signs old new
+pub rest-both : {K : Type 0} (signs : KeeperSigns K) (old mid new : Housed K) → AtRest signs old mid → AtRest signs mid new → AtRest signs old new
 rest-both signs old mid new a b =
     record {
       idle = b.idle;
@@ -37,7 +37,7 @@ rest-both signs old mid new a b =
       plans = keeps-both old.places mid.places new.places a.plans b.plans;
     }
 
-pub rest-here : {K : Type 0} (signs : Signs K) (h : Housed K) → IsIdle (past h) → AtRest signs h h
+pub rest-here : {K : Type 0} (signs : KeeperSigns K) (h : Housed K) → IsIdle (past h) → AtRest signs h h
 rest-here signs h i =
     record {
       idle = i;
@@ -48,7 +48,7 @@ rest-here signs h i =
     }
 
 -- Nothing was done yet.
-pub so_far-nothing : {K X : Type 0} (signs : Signs K) (wanting : Bool) (client : ℕ) (Play : X → List Moment → Type 0) (h : Housed K) → IsIdle (past h) → SoFar signs wanting client Play [] h h
+pub so_far-nothing : {K X : Type 0} (signs : KeeperSigns K) (wanting : Bool) (client : ℕ) (Play : X → List Moment → Type 0) (h : Housed K) → IsIdle (past h) → SoFar signs wanting client Play [] h h
 so_far-nothing signs wanting client Play h i =
     record { moments = []; did = did-nothing client (past h); plays = refl; rest = rest-here signs h i }
 
@@ -64,7 +64,7 @@ so-left true wanting client Play xs moments e p = p
 so-left false wanting client Play xs moments e p = cc
 
 -- A boot that ran goes on running.
-pub still-booted : {K X : Type 0} (signs : Signs K) (wanting : Bool) (client : ℕ) (Play : X → List Moment → Type 0) (done : List X) (old new : Housed K) → SoFar signs wanting client Play done old new → 0 < boots (past old) → 0 < boots (past new)
+pub still-booted : {K X : Type 0} (signs : KeeperSigns K) (wanting : Bool) (client : ℕ) (Play : X → List Moment → Type 0) (done : List X) (old new : Housed K) → SoFar signs wanting client Play done old new → 0 < boots (past old) → 0 < boots (past new)
 still-booted signs wanting client Play done old new s b = subst (λ (n : ℕ). 0 < n) (sym (grew-boots (past old) (past new) s.did.grew)) b
 
 -- The facts and the rows before the log are the same all along.

@@ -4,7 +4,6 @@ use Rattle.std.proofs.lemmas.Bool.{eqb-true, or_parts}
 use Rattle.std.proofs.lemmas.Option.{same_Some}
 use Rattle.std.specs.List.{list_any}
 use Rattle.std.specs.Prelude.{Option, Some, None, ◌==◌}
-use Rattle.history_keeper.specs.declared.row.Row.{Row}
 use Rattle.update_log.proofs.Lists.{by_test}
 use Rattle.update_log.specs.declared.event.Event.{Event}
 use Rattle.update_log.specs.declared.facts.Facts.{Facts}
@@ -21,12 +20,12 @@ use Rattle.client_plays.proofs.Told.{AllTold, Told}
 
 -- ---- a legal log, in front
 
-pub legal-front : (c : Campaign) (opening : List Row) (newer past : List Event) → IsLegal c opening (newer ++ past) → IsLegal c opening past
-legal-front c opening [] past l = l
-legal-front c opening (e ∷ newer) past l = legal-front c opening newer past l.0
+pub legal-front : (c : Campaign) (newer past : List Event) → IsLegal c (newer ++ past) → IsLegal c past
+legal-front c [] past l = l
+legal-front c (e ∷ newer) past l = legal-front c newer past l.0
 
-pub legal-at : (c : Campaign) (opening : List Row) (newer : List Event) (event : Event) (past : List Event) → IsLegal c opening (newer ++ event ∷ past) → Allowed c opening past event
-legal-at c opening newer event past l = (legal-front c opening newer (event ∷ past) l).2
+pub legal-at : (c : Campaign) (newer : List Event) (event : Event) (past : List Event) → IsLegal c (newer ++ event ∷ past) → Allowed c past event
+legal-at c newer event past l = (legal-front c newer (event ∷ past) l).2
 
 -- ---- what comes before an event, among its client's own
 
@@ -91,13 +90,13 @@ asks_for client (Event.Ask other request pending answer) = other == client
 asks_for client _ = false
 
 -- Whoever holds something asks for nothing.
-asks-none : (c : Campaign) (opening : List Row) (past : List Event) (event : Event) (client : ℕ) (held : Held) → Allowed c opening past event → hold past client ≡ Some held → asks_for client event ≡ false
-asks-none c opening past (Event.Ask other request pending answer) client held a h =
+asks-none : (c : Campaign) (past : List Event) (event : Event) (client : ℕ) (held : Held) → Allowed c past event → hold past client ≡ Some held → asks_for client event ≡ false
+asks-none c past (Event.Ask other request pending answer) client held a h =
     by_test (other == client) _
     (λ t. let none : hold past client ≡ None = ap (λ (n : ℕ). hold past n) (sym (eqb-true other client t)) ∙ a.free.hold in
     let bad : Some held ≡ None = sym h ∙ none in cc)
     (λ f. f)
-asks-none c opening past _ client held a h = refl
+asks-none c past _ client held a h = refl
 
 -- An event that neither ends a hold of the client nor asks for one leaves it.
 hold-stays : (event : Event) (past : List Event) (client : ℕ) → is_boot event ≡ false → lets_go client event ≡ false → asks_for client event ≡ false → hold (event ∷ past) client ≡ hold past client
@@ -125,16 +124,16 @@ pub record Released (client : ℕ) (asked later : List Event) (held : Held) : Ty
   pub still : hold (between ++ asked) client ≡ Some held
   pub asks : list_any (asks_for client) between ≡ false
 
-still-or-released : (c : Campaign) (opening : List Row) (client : ℕ) (asked later : List Event) (held : Held) → IsLegal c opening (later ++ asked) → list_any is_boot later ≡ false → hold asked client ≡ Some held → StillHeld client asked later held ⊎ Released client asked later held
-still-or-released c opening client asked [] held l n h = inl (record { still = h; asks = refl })
-still-or-released c opening client asked (e ∷ later) held l n h =
+still-or-released : (c : Campaign) (client : ℕ) (asked later : List Event) (held : Held) → IsLegal c (later ++ asked) → list_any is_boot later ≡ false → hold asked client ≡ Some held → StillHeld client asked later held ⊎ Released client asked later held
+still-or-released c client asked [] held l n h = inl (record { still = h; asks = refl })
+still-or-released c client asked (e ∷ later) held l n h =
     let k = or_parts (is_boot e) (list_any is_boot later) n in
-    elim (still-or-released c opening client asked later held l.0 k.1 h) [
+    elim (still-or-released c client asked later held l.0 k.1 h) [
       | inl s ↦
           by_test (lets_go client e) _
           (λ t. inr (record { newer = []; between = later; event = e; are = refl; newer_on = refl; between_on = k.1; lets = t; still = s.still; asks = s.asks }))
           (λ f.
-          let a : asks_for client e ≡ false = asks-none c opening (later ++ asked) e client held l.2 s.still in
+          let a : asks_for client e ≡ false = asks-none c (later ++ asked) e client held l.2 s.still in
           inl (record { still = hold-stays e (later ++ asked) client k.0 f a ∙ s.still; asks = rw a s.asks }))
       | inr r ↦
           inr (record {
@@ -151,9 +150,9 @@ still-or-released c opening client asked (e ∷ later) held l n h =
     ]
 
 -- A boot that ends with no hold has ended each that was asked for in it.
-pub released : (c : Campaign) (opening : List Row) (client : ℕ) (asked later : List Event) (held : Held) → IsLegal c opening (later ++ asked) → list_any is_boot later ≡ false → hold asked client ≡ Some held → holds (later ++ asked) ≡ [] → Released client asked later held
-released c opening client asked later held l n h none =
-    elim (still-or-released c opening client asked later held l n h) [
+pub released : (c : Campaign) (client : ℕ) (asked later : List Event) (held : Held) → IsLegal c (later ++ asked) → list_any is_boot later ≡ false → hold asked client ≡ Some held → holds (later ++ asked) ≡ [] → Released client asked later held
+released c client asked later held l n h none =
+    elim (still-or-released c client asked later held l n h) [
       | inl s ↦
           (let gone : hold (later ++ asked) client ≡ None = ap (λ (hs : List Held). hold_of hs client) none in
           let bad : Some held ≡ None = sym s.still ∙ gone in cc)

@@ -23,7 +23,7 @@ use Rattle.update_log.specs.declared.refusal.FetchNote.{FetchNote}
 use Rattle.update_log.specs.declared.refusal.Refusal.{Refusal}
 use Rattle.update_log.specs.declared.request.Request.{Request}
 use Rattle.update_log.specs.Holding.{hold}
-use Rattle.update_log.specs.Known.{Target, target, views}
+use Rattle.update_log.specs.Known.{Basis, Target, target, views}
 use Rattle.update_log.specs.Legal.{ClaimAllowed, ClaimAnswered, ResumeAllowed, ResumeAnswered, is_fetched, next_entry}
 use Rattle.update_log.specs.Verdicts.{verdict}
 use Rattle.daemon_core.proofs.Asking.{release-same}
@@ -122,53 +122,53 @@ came-noted facts files at note digest size raw f e =
     }
 
 -- A claim takes an entry, where its payload came whole or the shelf failed.
-pub claim-came : (facts : Facts) (opening : List Row) (past : List Event) (client : ℕ) (request : Request) (note : FetchNote) (answer : ClaimAnswer) (held : Held)
-    → ClaimAllowed facts opening past client request note answer held → IsAccept (verdict facts opening past client request (Stage.Claim held.release))
-    → CameWhole facts held.release note ⊎ (note ≡ FetchNote.ShelfFault) → Takes (next_entry facts opening past) note answer
-claim-came facts opening past client request note answer held allowed accepted (inr e) = inr (inr e)
-claim-came facts opening past client request note answer held allowed accepted (inl w) =
-    let t = claimable facts opening past client request held.release accepted in
-    let whole : is_fetched note (target facts (views facts opening past) request) ≡ true = ap (λ (n : FetchNote). is_fetched n (target facts (views facts opening past) request)) w.note_is ∙ whole-fetched facts opening past client request held.release t.0 w.payload t.1 w.of_release in
-    by (claim-takes note (target facts (views facts opening past) request) (next_entry facts opening past) (verdict facts opening past client request (Stage.Claim held.release)) answer accepted whole allowed.answer_is)
+pub claim-came : (basis : Basis) (past : List Event) (client : ℕ) (request : Request) (note : FetchNote) (answer : ClaimAnswer) (held : Held)
+    → ClaimAllowed basis past client request note answer held → IsAccept (verdict basis past client request (Stage.Claim held.release))
+    → CameWhole basis.facts held.release note ⊎ (note ≡ FetchNote.ShelfFault) → Takes (next_entry basis past) note answer
+claim-came basis past client request note answer held allowed accepted (inr e) = inr (inr e)
+claim-came basis past client request note answer held allowed accepted (inl w) =
+    let t = claimable basis past client request held.release accepted in
+    let whole : is_fetched note (target basis.facts (views basis past) request) ≡ true = ap (λ (n : FetchNote). is_fetched n (target basis.facts (views basis past) request)) w.note_is ∙ whole-fetched basis past client request held.release t.0 w.payload t.1 w.of_release in
+    by (claim-takes note (target basis.facts (views basis past) request) (next_entry basis past) (verdict basis past client request (Stage.Claim held.release)) answer accepted whole allowed.answer_is)
   where
-    by : (answer ≡ ClaimAnswer.Entry (next_entry facts opening past)) ⊎ (answer ≡ ClaimAnswer.Refused Refusal.KeeperFault) → Takes (next_entry facts opening past) note answer
+    by : (answer ≡ ClaimAnswer.Entry (next_entry basis past)) ⊎ (answer ≡ ClaimAnswer.Refused Refusal.KeeperFault) → Takes (next_entry basis past) note answer
     by (inl e) = inl e
     by (inr e) = inr (inl e)
 
-pub claim-complete : (facts : Facts) (opening : List Row) (past : List Event) (client : ℕ) (request : Request) (note : FetchNote) (answer : ClaimAnswer) (files : Files) (held : Held)
-    → ClaimAllowed facts opening past client request note answer held → IsFetched facts files held.release note
-    → CanTake facts opening past files client request held → Takes (next_entry facts opening past) note answer
-claim-complete facts opening past client request note answer files held allowed fetched can =
-    claim-came facts opening past client request note answer held allowed can.accepted (came-whole facts files held.release note fetched can.payload)
+pub claim-complete : (basis : Basis) (past : List Event) (client : ℕ) (request : Request) (note : FetchNote) (answer : ClaimAnswer) (files : Files) (held : Held)
+    → ClaimAllowed basis past client request note answer held → IsFetched basis.facts files held.release note
+    → CanTake basis past files client request held → Takes (next_entry basis past) note answer
+claim-complete basis past client request note answer files held allowed fetched can =
+    claim-came basis past client request note answer held allowed can.accepted (came-whole basis.facts files held.release note fetched can.payload)
 
 -- A resumption begins.
-pub resumption-came : (facts : Facts) (opening : List Row) (past : List Event) (client entry : ℕ) (note : FetchNote) (answer : ResumeAnswer) (stored : Stored) (row : Row) (held : Held)
-    → ResumeAllowed facts opening past client entry (Some note) answer stored row → hold past 0 ≡ Some held → IsAccept (verdict facts opening past 0 held.request (Stage.Resume entry held.release))
-    → CameWhole facts held.release note ⊎ (note ≡ FetchNote.ShelfFault) → Resumes note answer
-resumption-came facts opening past client entry note answer stored row held allowed holds accepted came = at came
+pub resumption-came : (basis : Basis) (past : List Event) (client entry : ℕ) (note : FetchNote) (answer : ResumeAnswer) (stored : Stored) (row : Row) (held : Held)
+    → ResumeAllowed basis past client entry (Some note) answer stored row → hold past 0 ≡ Some held → IsAccept (verdict basis past 0 held.request (Stage.Resume entry held.release))
+    → CameWhole basis.facts held.release note ⊎ (note ≡ FetchNote.ShelfFault) → Resumes note answer
+resumption-came basis past client entry note answer stored row held allowed holds accepted came = at came
   where
     goal : Option Target
-    goal = target facts (views facts opening past) held.request
+    goal = target basis.facts (views basis past) held.request
 
     same : allowed.fetched_is.0 ≡ held
     same = same_Some allowed.fetched_is.0 held (sym allowed.fetched_is.1 ∙ holds)
 
-    answered : ResumeAnswered note goal (verdict facts opening past 0 held.request (Stage.Resume entry held.release)) answer
-    answered = subst (λ (h : Held). ResumeAnswered note (target facts (views facts opening past) h.request) (verdict facts opening past 0 h.request (Stage.Resume entry h.release)) answer) same allowed.fetched_is.3
+    answered : ResumeAnswered note goal (verdict basis past 0 held.request (Stage.Resume entry held.release)) answer
+    answered = subst (λ (h : Held). ResumeAnswered note (target basis.facts (views basis past) h.request) (verdict basis past 0 h.request (Stage.Resume entry h.release)) answer) same allowed.fetched_is.3
 
     by : (answer ≡ ResumeAnswer.Begun) ⊎ (answer ≡ ResumeAnswer.Refused Refusal.KeeperFault) → Resumes note answer
     by (inl e) = inl e
     by (inr e) = inr (inl e)
 
-    at : CameWhole facts held.release note ⊎ (note ≡ FetchNote.ShelfFault) → Resumes note answer
+    at : CameWhole basis.facts held.release note ⊎ (note ≡ FetchNote.ShelfFault) → Resumes note answer
     at (inr e) = inr (inr e)
     at (inl w) =
-        let t = resumable facts opening past entry held.request held.release accepted in
-        let whole : is_fetched note goal ≡ true = ap (λ (n : FetchNote). is_fetched n goal) w.note_is ∙ whole-resumed facts opening past held.request held.release t.0 w.payload t.1 w.of_release in
-        by (resumption-begins note goal (verdict facts opening past 0 held.request (Stage.Resume entry held.release)) answer accepted whole answered)
+        let t = resumable basis past entry held.request held.release accepted in
+        let whole : is_fetched note goal ≡ true = ap (λ (n : FetchNote). is_fetched n goal) w.note_is ∙ whole-resumed basis past held.request held.release t.0 w.payload t.1 w.of_release in
+        by (resumption-begins note goal (verdict basis past 0 held.request (Stage.Resume entry held.release)) answer accepted whole answered)
 
-pub resumption-complete : (facts : Facts) (opening : List Row) (past : List Event) (client entry : ℕ) (note : FetchNote) (answer : ResumeAnswer) (stored : Stored) (row : Row) (files : Files) (held : Held)
-    → ResumeAllowed facts opening past client entry (Some note) answer stored row → IsFetched facts files held.release note
-    → CanResume facts opening past files entry held → Resumes note answer
-resumption-complete facts opening past client entry note answer stored row files held allowed fetched can =
-    resumption-came facts opening past client entry note answer stored row held allowed can.holds can.accepted (came-whole facts files held.release note fetched can.payload)
+pub resumption-complete : (basis : Basis) (past : List Event) (client entry : ℕ) (note : FetchNote) (answer : ResumeAnswer) (stored : Stored) (row : Row) (files : Files) (held : Held)
+    → ResumeAllowed basis past client entry (Some note) answer stored row → IsFetched basis.facts files held.release note
+    → CanResume basis past files entry held → Resumes note answer
+resumption-complete basis past client entry note answer stored row files held allowed fetched can =
+    resumption-came basis past client entry note answer stored row held allowed can.holds can.accepted (came-whole basis.facts files held.release note fetched can.payload)

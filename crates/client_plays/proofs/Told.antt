@@ -4,7 +4,6 @@ use Rattle.std.specs.Prelude.{Option, Some, None, MatchBool}
 use Rattle.block_pool.specs.Views.{SealedBytes}
 use Rattle.emulated_boards.specs.Boards.{BoardState}
 use Rattle.plugin_trait.specs.Steps.{PluginSteps}
-use Rattle.history_keeper.specs.declared.row.Row.{Row}
 use Rattle.update_log.specs.declared.answer.AskAnswer.{AskAnswer}
 use Rattle.update_log.specs.declared.answer.ClaimAnswer.{ClaimAnswer}
 use Rattle.update_log.specs.declared.answer.ResumeAnswer.{ResumeAnswer}
@@ -21,6 +20,7 @@ use Rattle.client_plays.specs.Scripts.{PlayedSo, PlaysAll, PlaysOne, PlaysUntil}
 use Rattle.client_plays.specs.Shelves.{IsFetched}
 use Rattle.client_plays.specs.Tools.{Files, Means}
 use Rattle.client_plays.proofs.Ways.{one-way}
+use Rattle.update_log.specs.Known.{Basis}
 
 -- ---- what is told of one event
 
@@ -119,92 +119,92 @@ module _ (facts : Facts) (files : Files) where
 
 -- ---- plays
 
-module _ (facts : Facts) (opening : List Row) (means : Means) (Cause : Type 0) where
-  told-update : (steps : PluginSteps) (client entry : ℕ) (payload : SealedBytes) (board : BoardState) → IsTold facts means.files Cause (StepsPlay steps client entry payload board)
+module _ (basis : Basis) (means : Means) (Cause : Type 0) where
+  told-update : (steps : PluginSteps) (client entry : ℕ) (payload : SealedBytes) (board : BoardState) → IsTold basis.facts means.files Cause (StepsPlay steps client entry payload board)
   told-update steps client entry payload board [] p before = absurd p
-  told-update steps client entry payload board (m ∷ []) p before = (told-one facts means.files Cause before m (Event.Finish client entry p.0 p.1) p.2 tt, tt)
+  told-update steps client entry payload board (m ∷ []) p before = (told-one basis.facts means.files Cause before m (Event.Finish client entry p.0 p.1) p.2 tt, tt)
   told-update steps client entry payload board (m ∷ n ∷ moments) p before = (
-    told-one facts means.files Cause before m _ p.1.started_is tt,
-    (told-one facts means.files Cause (Some m.event) n _ p.1.ended_is tt, told-update steps client entry payload p.0 moments p.2 (Some n.event)),
+    told-one basis.facts means.files Cause before m _ p.1.started_is tt,
+    (told-one basis.facts means.files Cause (Some m.event) n _ p.1.ended_is tt, told-update steps client entry payload p.0 moments p.2 (Some n.event)),
   )
 
-  told-after_claim : (client : ℕ) (past : List Event) (answer : ClaimAnswer) → IsTold facts means.files Cause (AfterClaim facts opening means.plugins client past answer)
+  told-after_claim : (client : ℕ) (past : List Event) (answer : ClaimAnswer) → IsTold basis.facts means.files Cause (AfterClaim basis means.plugins client past answer)
   told-after_claim client past (ClaimAnswer.Entry entry) moments p before = told-update (means.plugins p.place) client entry p.payload p.board moments p.plays before
-  told-after_claim client past (ClaimAnswer.Kept entry state) moments p before = told-nothing facts means.files Cause moments p before
-  told-after_claim client past (ClaimAnswer.Refused refusal) moments p before = told-nothing facts means.files Cause moments p before
+  told-after_claim client past (ClaimAnswer.Kept entry state) moments p before = told-nothing basis.facts means.files Cause moments p before
+  told-after_claim client past (ClaimAnswer.Refused refusal) moments p before = told-nothing basis.facts means.files Cause moments p before
 
-  told-claim : (client : ℕ) (request : Request) (blocks : ℕ) (release : ReleaseRef) (moments : List Moment) → ClaimPlays facts opening means client request release moments
-      → AllTold facts means.files Cause (Some (Event.Ask client request None (AskAnswer.Hold blocks release))) moments
+  told-claim : (client : ℕ) (request : Request) (blocks : ℕ) (release : ReleaseRef) (moments : List Moment) → ClaimPlays basis means client request release moments
+      → AllTold basis.facts means.files Cause (Some (Event.Ask client request None (AskAnswer.Hold blocks release))) moments
   told-claim client request blocks release [] p = absurd p
   told-claim client request blocks release (m ∷ moments) p =
       let before : Option Event = Some (Event.Ask client request None (AskAnswer.Hold blocks release)) in (
-        told-one facts means.files Cause before m (Event.Claim client request p.0 p.1) p.2 (record { request = request; blocks = blocks; release = release; asked = refl; fetched = p.3 }),
+        told-one basis.facts means.files Cause before m (Event.Claim client request p.0 p.1) p.2 (record { request = request; blocks = blocks; release = release; asked = refl; fetched = p.3 }),
         told-after_claim client (behind m) p.1 moments p.4 (Some m.event),
       )
 
-  told-after_ask : (client : ℕ) (request : Request) (answer : AskAnswer) (moments : List Moment) → AfterAsk facts opening means client request answer moments
-      → AllTold facts means.files Cause (Some (Event.Ask client request None answer)) moments
+  told-after_ask : (client : ℕ) (request : Request) (answer : AskAnswer) (moments : List Moment) → AfterAsk basis means client request answer moments
+      → AllTold basis.facts means.files Cause (Some (Event.Ask client request None answer)) moments
   told-after_ask client request (AskAnswer.Hold blocks release) moments p = told-claim client request blocks release moments p
-  told-after_ask client request (AskAnswer.Kept entry state) moments p = told-nothing facts means.files Cause moments p (Some (Event.Ask client request None (AskAnswer.Kept entry state)))
-  told-after_ask client request (AskAnswer.Refused refusal) moments p = told-nothing facts means.files Cause moments p (Some (Event.Ask client request None (AskAnswer.Refused refusal)))
+  told-after_ask client request (AskAnswer.Kept entry state) moments p = told-nothing basis.facts means.files Cause moments p (Some (Event.Ask client request None (AskAnswer.Kept entry state)))
+  told-after_ask client request (AskAnswer.Refused refusal) moments p = told-nothing basis.facts means.files Cause moments p (Some (Event.Ask client request None (AskAnswer.Refused refusal)))
 
-  told-install : (client : ℕ) (request : Request) → IsTold facts means.files Cause (InstallPlays facts opening means client request)
+  told-install : (client : ℕ) (request : Request) → IsTold basis.facts means.files Cause (InstallPlays basis means client request)
   told-install client request [] p before = absurd p
   told-install client request (m ∷ moments) p before = (
-    told-one facts means.files Cause before m (Event.Ask client request None p.0) p.1 tt,
-    subst (λ (x : Event). AllTold facts means.files Cause (Some x) moments) (sym p.1) (told-after_ask client request p.0 moments p.2),
+    told-one basis.facts means.files Cause before m (Event.Ask client request None p.0) p.1 tt,
+    subst (λ (x : Event). AllTold basis.facts means.files Cause (Some x) moments) (sym p.1) (told-after_ask client request p.0 moments p.2),
   )
 
-  told-install_so : (client : ℕ) (request : Request) (offline : Bool) → IsTold facts means.files Cause (λ moments. MatchBool offline (Alone (SchedulePlays client request) moments) (InstallPlays facts opening means client request moments))
+  told-install_so : (client : ℕ) (request : Request) (offline : Bool) → IsTold basis.facts means.files Cause (λ moments. MatchBool offline (Alone (SchedulePlays client request) moments) (InstallPlays basis means client request moments))
   told-install_so client request true moments p before =
-      told-alone facts means.files Cause (SchedulePlays client request) (λ m s o. told-one facts means.files Cause o m (Event.Schedule client request s.0) s.1 tt) moments p before
+      told-alone basis.facts means.files Cause (SchedulePlays client request) (λ m s o. told-one basis.facts means.files Cause o m (Event.Schedule client request s.0) s.1 tt) moments p before
   told-install_so client request false moments p before = told-install client request moments p before
 
-  told-item : (client : ℕ) (item : Item) → IsTold facts means.files Cause (Plays facts opening means client item)
+  told-item : (client : ℕ) (item : Item) → IsTold basis.facts means.files Cause (Plays basis means client item)
   told-item client (Item.Ask query) moments p before =
-      told-alone facts means.files Cause (λ m. m.event ≡ Event.Query client query) (λ m s o. told-one facts means.files Cause o m (Event.Query client query) s tt) moments p before
+      told-alone basis.facts means.files Cause (λ m. m.event ≡ Event.Query client query) (λ m s o. told-one basis.facts means.files Cause o m (Event.Query client query) s tt) moments p before
   told-item client (Item.Install request) moments p before = told-install_so client request request.flags.offline moments p before
   told-item client (Item.Settle selector) moments p before =
-      told-alone facts means.files Cause _ (λ m s o. elim s [ inl judged ↦ told-one facts means.files Cause o m _ judged.event_is tt | inr asked ↦ told-one facts means.files Cause o m _ asked tt ]) moments p before
-  told-item client (Item.Unplug selector) moments p before = told-alone facts means.files Cause _ (λ m s o. told-one facts means.files Cause o m _ s.1 tt) moments p before
-  told-item client (Item.Plug selector) moments p before = told-alone facts means.files Cause _ (λ m s o. told-one facts means.files Cause o m _ s.1 tt) moments p before
+      told-alone basis.facts means.files Cause _ (λ m s o. elim s [ inl judged ↦ told-one basis.facts means.files Cause o m _ judged.event_is tt | inr asked ↦ told-one basis.facts means.files Cause o m _ asked tt ]) moments p before
+  told-item client (Item.Unplug selector) moments p before = told-alone basis.facts means.files Cause _ (λ m s o. told-one basis.facts means.files Cause o m _ s.1 tt) moments p before
+  told-item client (Item.Plug selector) moments p before = told-alone basis.facts means.files Cause _ (λ m s o. told-one basis.facts means.files Cause o m _ s.1 tt) moments p before
 
   -- ---- the daemon's
 
-  told-after_resume : (entry : ℕ) (past : List Event) (answer : ResumeAnswer) → IsTold facts means.files Cause (AfterResume facts opening means.plugins entry past answer)
+  told-after_resume : (entry : ℕ) (past : List Event) (answer : ResumeAnswer) → IsTold basis.facts means.files Cause (AfterResume basis means.plugins entry past answer)
   told-after_resume entry past ResumeAnswer.Begun moments p before = told-update (means.plugins p.place) 0 entry p.payload p.board moments p.plays before
-  told-after_resume entry past (ResumeAnswer.Refused refusal) moments p before = told-nothing facts means.files Cause moments p before
+  told-after_resume entry past (ResumeAnswer.Refused refusal) moments p before = told-nothing basis.facts means.files Cause moments p before
 
-  told-resumed : (entry : ℕ) (request : Request) (asked : AskAnswer) (note : Option FetchNote) (answer : ResumeAnswer) (stored : Stored) → ResumeFetches facts means.files asked note
-      → Told facts means.files Cause (Some (Event.Ask 0 request (Some entry) asked)) (Event.Resume 0 entry note answer stored)
+  told-resumed : (entry : ℕ) (request : Request) (asked : AskAnswer) (note : Option FetchNote) (answer : ResumeAnswer) (stored : Stored) → ResumeFetches basis.facts means.files asked note
+      → Told basis.facts means.files Cause (Some (Event.Ask 0 request (Some entry) asked)) (Event.Resume 0 entry note answer stored)
   told-resumed entry request (AskAnswer.Hold blocks release) note answer stored f =
-      subst (λ (n : Option FetchNote). Told facts means.files Cause (Some (Event.Ask 0 request (Some entry) (AskAnswer.Hold blocks release))) (Event.Resume 0 entry n answer stored)) (sym f.1)
+      subst (λ (n : Option FetchNote). Told basis.facts means.files Cause (Some (Event.Ask 0 request (Some entry) (AskAnswer.Hold blocks release))) (Event.Resume 0 entry n answer stored)) (sym f.1)
       (record { request = request; blocks = blocks; release = release; asked = refl; fetched = f.2 })
   told-resumed entry request (AskAnswer.Kept kept state) note answer stored f =
-      subst (λ (n : Option FetchNote). Told facts means.files Cause (Some (Event.Ask 0 request (Some entry) (AskAnswer.Kept kept state))) (Event.Resume 0 entry n answer stored)) (sym f)
+      subst (λ (n : Option FetchNote). Told basis.facts means.files Cause (Some (Event.Ask 0 request (Some entry) (AskAnswer.Kept kept state))) (Event.Resume 0 entry n answer stored)) (sym f)
       (record { request = request; answer = AskAnswer.Kept kept state; asked = refl; no_hold = λ blocks release e. cc })
   told-resumed entry request (AskAnswer.Refused refusal) note answer stored f =
-      subst (λ (n : Option FetchNote). Told facts means.files Cause (Some (Event.Ask 0 request (Some entry) (AskAnswer.Refused refusal))) (Event.Resume 0 entry n answer stored)) (sym f)
+      subst (λ (n : Option FetchNote). Told basis.facts means.files Cause (Some (Event.Ask 0 request (Some entry) (AskAnswer.Refused refusal))) (Event.Resume 0 entry n answer stored)) (sym f)
       (record { request = request; answer = AskAnswer.Refused refusal; asked = refl; no_hold = λ blocks release e. cc })
 
-  told-resume : (entry : ℕ) (request : Request) (asked : AskAnswer) (moments : List Moment) → ResumePlays facts opening means entry asked moments
-      → AllTold facts means.files Cause (Some (Event.Ask 0 request (Some entry) asked)) moments
+  told-resume : (entry : ℕ) (request : Request) (asked : AskAnswer) (moments : List Moment) → ResumePlays basis means entry asked moments
+      → AllTold basis.facts means.files Cause (Some (Event.Ask 0 request (Some entry) asked)) moments
   told-resume entry request asked [] p = absurd p
   told-resume entry request asked (m ∷ moments) p =
       let before : Option Event = Some (Event.Ask 0 request (Some entry) asked) in (
-        told-one facts means.files Cause before m (Event.Resume 0 entry p.0 p.1 p.2) p.3 (told-resumed entry request asked p.0 p.1 p.2 p.4),
+        told-one basis.facts means.files Cause before m (Event.Resume 0 entry p.0 p.1 p.2) p.3 (told-resumed entry request asked p.0 p.1 p.2 p.4),
         told-after_resume entry (behind m) p.1 moments p.5 (Some m.event),
       )
 
-  told-pending : (entry : ℕ) → IsTold facts means.files Cause (PendingPlays facts opening means entry)
+  told-pending : (entry : ℕ) → IsTold basis.facts means.files Cause (PendingPlays basis means entry)
   told-pending entry [] p before = absurd p
   told-pending entry (m ∷ moments) p before = (
-    told-one facts means.files Cause before m (Event.Ask 0 p.0 (Some entry) p.1) p.2 tt,
-    subst (λ (x : Event). AllTold facts means.files Cause (Some x) moments) (sym p.2) (told-resume entry p.0 p.1 moments p.3),
+    told-one basis.facts means.files Cause before m (Event.Ask 0 p.0 (Some entry) p.1) p.2 tt,
+    subst (λ (x : Event). AllTold basis.facts means.files Cause (Some x) moments) (sym p.2) (told-resume entry p.0 p.1 moments p.3),
   )
 
-  told-task : (task : Task) → IsTold facts means.files Cause (TaskPlays facts opening means task)
-  told-task (ToJudge entry) moments p before = told-alone facts means.files Cause _ (λ m s o. told-one facts means.files Cause o m (Event.Judge 0 entry s.0 s.1 s.2) s.3 tt) moments p before
+  told-task : (task : Task) → IsTold basis.facts means.files Cause (TaskPlays basis means task)
+  told-task (ToJudge entry) moments p before = told-alone basis.facts means.files Cause _ (λ m s o. told-one basis.facts means.files Cause o m (Event.Judge 0 entry s.0 s.1 s.2) s.3 tt) moments p before
   told-task (ToResume entry) moments p before = told-pending entry moments p before
 
 -- ---- what was played in a boot
@@ -213,12 +213,12 @@ module _ (facts : Facts) (opening : List Row) (means : Means) (Cause : Type 0) w
 abbrev pub WasStopped : Bool → Bool → Type 0
 WasStopped is_off wanting = (is_off ≡ true) ⊎ (wanting ≡ true)
 
-pub items-told : (facts : Facts) (opening : List Row) (means : Means) (client : ℕ) (is_off wanting : Bool) (items : List Item) (moments : List Moment) → PlayedSo is_off wanting client (Plays facts opening means client) items moments
-    → AllTold facts means.files (WasStopped is_off wanting) None moments
-items-told facts opening means client is_off wanting items moments p =
-    told-so facts means.files client (Plays facts opening means client) (WasStopped is_off wanting) (told-item facts opening means (WasStopped is_off wanting) client) wanting (λ w. inr w) is_off (λ o. inl o) items moments p None
+pub items-told : (basis : Basis) (means : Means) (client : ℕ) (is_off wanting : Bool) (items : List Item) (moments : List Moment) → PlayedSo is_off wanting client (Plays basis means client) items moments
+    → AllTold basis.facts means.files (WasStopped is_off wanting) None moments
+items-told basis means client is_off wanting items moments p =
+    told-so basis.facts means.files client (Plays basis means client) (WasStopped is_off wanting) (told-item basis means (WasStopped is_off wanting) client) wanting (λ w. inr w) is_off (λ o. inl o) items moments p None
 
-pub tasks-told : (facts : Facts) (opening : List Row) (means : Means) (is_off wanting : Bool) (all : List Task) (moments : List Moment) → PlayedSo is_off wanting 0 (TaskPlays facts opening means) all moments
-    → AllTold facts means.files (WasStopped is_off wanting) None moments
-tasks-told facts opening means is_off wanting all moments p =
-    told-so facts means.files 0 (TaskPlays facts opening means) (WasStopped is_off wanting) (told-task facts opening means (WasStopped is_off wanting)) wanting (λ w. inr w) is_off (λ o. inl o) all moments p None
+pub tasks-told : (basis : Basis) (means : Means) (is_off wanting : Bool) (all : List Task) (moments : List Moment) → PlayedSo is_off wanting 0 (TaskPlays basis means) all moments
+    → AllTold basis.facts means.files (WasStopped is_off wanting) None moments
+tasks-told basis means is_off wanting all moments p =
+    told-so basis.facts means.files 0 (TaskPlays basis means) (WasStopped is_off wanting) (told-task basis means (WasStopped is_off wanting)) wanting (λ w. inr w) is_off (λ o. inl o) all moments p None

@@ -5,17 +5,15 @@ use Rattle.block_pool.specs.Views.{SealedBytes}
 use Rattle.emulated_boards.specs.Boards.{BoardState}
 use Rattle.emulated_boards.specs.declared.fault.BoardFault.{BoardFault}
 use Rattle.plugin_trait.specs.Steps.{PluginSteps, no_steps}
-use Rattle.history_keeper.specs.declared.row.Row.{Row}
+use Rattle.history_keeper.specs.Signs.{KeeperSigns}
 use Rattle.update_log.specs.declared.answer.AskAnswer.{AskAnswer}
 use Rattle.update_log.specs.declared.answer.ClaimAnswer.{ClaimAnswer}
 use Rattle.update_log.specs.declared.answer.ResumeAnswer.{ResumeAnswer}
 use Rattle.update_log.specs.declared.event.Event.{Event}
 use Rattle.update_log.specs.declared.event.Op.{Op}
-use Rattle.update_log.specs.declared.facts.Facts.{Facts}
 use Rattle.update_log.specs.declared.request.Request.{Request}
 use Rattle.release_catalogue.specs.declared.reference.ReleaseRef.{ReleaseRef}
 use Rattle.daemon_core.specs.Housed.{Housed}
-use Rattle.daemon_core.specs.Turns.{Signs}
 use Rattle.device_claims.specs.Claims.{StepGives}
 use Rattle.client_scripts.specs.declared.item.Item.{Item}
 use Rattle.client_plays.specs.declared.played.Played.{Played}
@@ -25,6 +23,7 @@ use Rattle.client_plays.specs.Moments.{Moment, behind}
 use Rattle.client_plays.specs.Plays.{AfterAsk, AfterClaim, AfterResume, Alone, ClaimPlays, InstallPlays, Leaves, Plays, ResumePlays, SchedulePlays, StepsPlay, Task, TaskPlays, ToJudge, ToResume, UpdatePlays}
 use Rattle.client_plays.specs.Scripts.{PlayedSo, PlaysAll, PlaysOne, PlaysUntil}
 use Rattle.client_plays.specs.Tools.{Means, files_alone}
+use Rattle.update_log.specs.Known.{Basis}
 
 -- One kind of play is wider than another.
 abbrev pub IsWider : (List Moment → Type 0) → (List Moment → Type 0) → Type 0
@@ -87,14 +86,14 @@ module _ {X : Type 0} (wanting : Bool) (client : ℕ) (Wide Play : X → List Mo
   so-wider true xs moments p = until-wider xs moments p
   so-wider false xs moments p = all-wider xs moments p
 
-  pub went-wider : {K : Type 0} (signs : Signs K) (xs : List X) (old new : Housed K) → HouseWent signs wanting client Play xs old new → HouseWent signs wanting client Wide xs old new
+  pub went-wider : {K : Type 0} (signs : KeeperSigns K) (xs : List X) (old new : Housed K) → HouseWent signs wanting client Play xs old new → HouseWent signs wanting client Wide xs old new
   went-wider signs xs old new h =
       record {
         went = record { moments = h.went.moments; did = h.went.did; plays = so-wider _ xs h.went.moments h.went.plays };
         rest = h.rest;
       }
 
-  pub so_far-wider : {K : Type 0} (signs : Signs K) (xs : List X) (old new : Housed K) → SoFar signs wanting client Play xs old new → SoFar signs wanting client Wide xs old new
+  pub so_far-wider : {K : Type 0} (signs : KeeperSigns K) (xs : List X) (old new : Housed K) → SoFar signs wanting client Play xs old new → SoFar signs wanting client Wide xs old new
   so_far-wider signs xs old new s =
       record { moments = s.moments; did = s.did; plays = all-wider xs s.moments s.plays; rest = s.rest }
 
@@ -110,8 +109,8 @@ steps-wider steps client entry payload board [] p = p
 steps-wider steps client entry payload board (m ∷ []) p = p
 steps-wider steps client entry payload board (m ∷ n ∷ moments) p = absurd (none-made p.1.op entry payload board p.0 p.1.outcome p.1.made)
 
-module _ (facts : Facts) (opening : List Row) (means : Means) where
-  update-wider : (client entry : ℕ) (taken : List Event) → IsWider (UpdatePlays facts opening means.plugins client entry taken) (UpdatePlays facts opening (λ place. no_steps) client entry taken)
+module _ (basis : Basis) (means : Means) where
+  update-wider : (client entry : ℕ) (taken : List Event) → IsWider (UpdatePlays basis means.plugins client entry taken) (UpdatePlays basis (λ place. no_steps) client entry taken)
   update-wider client entry taken moments p =
       record {
         place = p.place;
@@ -123,43 +122,43 @@ module _ (facts : Facts) (opening : List Row) (means : Means) where
         plays = steps-wider (means.plugins p.place) client entry p.payload p.board moments p.plays;
       }
 
-  after_claim-wider : (client : ℕ) (past : List Event) (answer : ClaimAnswer) → IsWider (AfterClaim facts opening means.plugins client past answer) (AfterClaim facts opening (λ place. no_steps) client past answer)
+  after_claim-wider : (client : ℕ) (past : List Event) (answer : ClaimAnswer) → IsWider (AfterClaim basis means.plugins client past answer) (AfterClaim basis (λ place. no_steps) client past answer)
   after_claim-wider client past (ClaimAnswer.Entry entry) moments p = update-wider client entry past moments p
   after_claim-wider client past (ClaimAnswer.Kept entry state) moments p = p
   after_claim-wider client past (ClaimAnswer.Refused refusal) moments p = p
 
-  pub claim-wider : (client : ℕ) (request : Request) (release : ReleaseRef) → IsWider (ClaimPlays facts opening means client request release) (ClaimPlays facts opening (files_alone means.files) client request release)
+  pub claim-wider : (client : ℕ) (request : Request) (release : ReleaseRef) → IsWider (ClaimPlays basis means client request release) (ClaimPlays basis (files_alone means.files) client request release)
   claim-wider client request release [] p = p
   claim-wider client request release (m ∷ moments) p = (p.0, p.1, p.2, p.3, after_claim-wider client (behind m) p.1 moments p.4)
 
-  after_ask-wider : (client : ℕ) (request : Request) (answer : AskAnswer) → IsWider (AfterAsk facts opening means client request answer) (AfterAsk facts opening (files_alone means.files) client request answer)
+  after_ask-wider : (client : ℕ) (request : Request) (answer : AskAnswer) → IsWider (AfterAsk basis means client request answer) (AfterAsk basis (files_alone means.files) client request answer)
   after_ask-wider client request (AskAnswer.Hold blocks release) moments p = claim-wider client request release moments p
   after_ask-wider client request (AskAnswer.Kept entry state) moments p = p
   after_ask-wider client request (AskAnswer.Refused refusal) moments p = p
 
-  install-wider : (client : ℕ) (request : Request) → IsWider (InstallPlays facts opening means client request) (InstallPlays facts opening (files_alone means.files) client request)
+  install-wider : (client : ℕ) (request : Request) → IsWider (InstallPlays basis means client request) (InstallPlays basis (files_alone means.files) client request)
   install-wider client request [] p = p
   install-wider client request (m ∷ moments) p = (p.0, p.1, after_ask-wider client request p.0 moments p.2)
 
   put_off-wider : (client : ℕ) (request : Request) (offline : Bool) (moments : List Moment)
-      → MatchBool offline (Alone (SchedulePlays client request) moments) (InstallPlays facts opening (files_alone means.files) client request moments)
-      → MatchBool offline (Alone (SchedulePlays client request) moments) (InstallPlays facts opening means client request moments)
+      → MatchBool offline (Alone (SchedulePlays client request) moments) (InstallPlays basis (files_alone means.files) client request moments)
+      → MatchBool offline (Alone (SchedulePlays client request) moments) (InstallPlays basis means client request moments)
   put_off-wider client request true moments p = p
   put_off-wider client request false moments p = install-wider client request moments p
 
-  pub item-wider : (client : ℕ) (item : Item) → IsWider (Plays facts opening means client item) (Plays facts opening (files_alone means.files) client item)
+  pub item-wider : (client : ℕ) (item : Item) → IsWider (Plays basis means client item) (Plays basis (files_alone means.files) client item)
   item-wider client (Item.Install request) moments p = put_off-wider client request request.flags.offline moments p
   item-wider client _ moments p = p
 
-  after_resume-wider : (entry : ℕ) (past : List Event) (answer : ResumeAnswer) → IsWider (AfterResume facts opening means.plugins entry past answer) (AfterResume facts opening (λ place. no_steps) entry past answer)
+  after_resume-wider : (entry : ℕ) (past : List Event) (answer : ResumeAnswer) → IsWider (AfterResume basis means.plugins entry past answer) (AfterResume basis (λ place. no_steps) entry past answer)
   after_resume-wider entry past ResumeAnswer.Begun moments p = update-wider 0 entry past moments p
   after_resume-wider entry past (ResumeAnswer.Refused refusal) moments p = p
 
-  resume-wider : (entry : ℕ) (asked : AskAnswer) → IsWider (ResumePlays facts opening means entry asked) (ResumePlays facts opening (files_alone means.files) entry asked)
+  resume-wider : (entry : ℕ) (asked : AskAnswer) → IsWider (ResumePlays basis means entry asked) (ResumePlays basis (files_alone means.files) entry asked)
   resume-wider entry asked [] p = p
   resume-wider entry asked (m ∷ moments) p = (p.0, p.1, p.2, p.3, p.4, after_resume-wider entry (behind m) p.1 moments p.5)
 
-  pub task-wider : (task : Task) → IsWider (TaskPlays facts opening means task) (TaskPlays facts opening (files_alone means.files) task)
+  pub task-wider : (task : Task) → IsWider (TaskPlays basis means task) (TaskPlays basis (files_alone means.files) task)
   task-wider (ToJudge entry) moments p = p
   task-wider (ToResume entry) [] p = p
   task-wider (ToResume entry) (m ∷ moments) p = (p.0, p.1, p.2, resume-wider entry p.1 moments p.3)

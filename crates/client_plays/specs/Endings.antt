@@ -1,14 +1,15 @@
 -- How a play ended, and what it did to a house.
 use Rattle.std.specs.Prelude.{◌≡◌, ◌⊎◌, ◌≤◌, ◌-◌, ◌^◌, ℕ, Bool, true, false, List, [], ◌∷◌, Option, Some, None, Result, Ok, Err}
+use Rattle.history_keeper.specs.Signs.{KeeperSigns}
 use Rattle.update_log.specs.declared.event.Event.{Event}
 use Rattle.update_log.specs.declared.event.Query.{Query}
 use Rattle.update_log.specs.Holding.{holds, live}
 use Rattle.update_log.specs.Pasts.{is_boot, off}
 use Rattle.daemon_core.specs.declared.stop.Stop.{Stop}
 use Rattle.daemon_core.specs.HouseLog.{SameFacts}
-use Rattle.daemon_core.specs.Housed.{Housed, past, rows_before}
+use Rattle.daemon_core.specs.Housed.{basis_in, Housed, past}
 use Rattle.daemon_core.specs.Keeping.{keeper_faults, last_faulted}
-use Rattle.daemon_core.specs.Turns.{KeeperFared, Signs}
+use Rattle.daemon_core.specs.Turns.{KeeperFared}
 use Rattle.daemon_core.specs.Planned.{KeepsPlans}
 use Rattle.client_scripts.specs.declared.item.Item.{Item}
 use Rattle.client_plays.specs.declared.played.Played.{Played}
@@ -61,7 +62,7 @@ pub record Ended (played : Played) (client : ℕ) (Play : List Moment → Type 0
 -- A house is at rest, after plays in one boot: nobody has anything out, what no event but a boot
 -- changes is as before, and each fault of the keeper that the log tells was counted. Each board at home has
 -- the faults planned that its number had.
-pub record AtRest {K : Type 0} (signs : Signs K) (old new : Housed K) : Type 0 where
+pub record AtRest {K : Type 0} (signs : KeeperSigns K) (old new : Housed K) : Type 0 where
   pub idle : IsIdle (past new)
   pub same : SameFacts old.house_log new.house_log
   pub counted : KeeperFared signs old new
@@ -69,7 +70,7 @@ pub record AtRest {K : Type 0} (signs : Signs K) (old new : Housed K) : Type 0 w
   pub plans : KeepsPlans old.places new.places
 
 -- The keeper counted each fault that the log tells, or its count stands at its end.
-abbrev pub IsCounted : {K : Type 0} → Signs K → Housed K → Type 0
+abbrev pub IsCounted : {K : Type 0} → KeeperSigns K → Housed K → Type 0
 IsCounted signs h = (keeper_faults (past h) ≤ signs.faults h.keeper) ⊎ (2 ^ 64 - 1 ≤ signs.faults h.keeper)
 
 -- What a client did who went through a list of things, between two pasts of one boot. `wanting` says
@@ -80,7 +81,7 @@ pub record WentThrough {X : Type 0} (wanting : Bool) (client : ℕ) (Play : X �
   pub plays : PlayedSo (off new) wanting client Play xs moments
 
 -- What that did to a house.
-pub record HouseWent {K X : Type 0} (signs : Signs K) (wanting : Bool) (client : ℕ) (Play : X → List Moment → Type 0) (xs : List X) (old new : Housed K) : Type 0 where
+pub record HouseWent {K X : Type 0} (signs : KeeperSigns K) (wanting : Bool) (client : ℕ) (Play : X → List Moment → Type 0) (xs : List X) (old new : Housed K) : Type 0 where
   pub went : WentThrough wanting client Play xs (past old) (past new)
   pub rest : AtRest signs old new
 
@@ -92,15 +93,15 @@ OnceMore (Some now) wanting client Play new moments =
 OnceMore None wanting client Play new moments = Leaves client Play moments × (off new ≡ true)
 
 -- What a client has done so far who goes through a list of things.
-pub record SoFar {K X : Type 0} (signs : Signs K) (wanting : Bool) (client : ℕ) (Play : X → List Moment → Type 0) (done : List X) (old new : Housed K) : Type 0 where
+pub record SoFar {K X : Type 0} (signs : KeeperSigns K) (wanting : Bool) (client : ℕ) (Play : X → List Moment → Type 0) (done : List X) (old new : Housed K) : Type 0 where
   pub moments : List Moment
   pub did : Did client moments (past old) (past new)
   pub plays : PlaysAll wanting client Play done moments
   pub rest : AtRest signs old new
 
 -- A boot was played: the log grew by events of this boot, and the house is at rest.
-pub record HouseBootPlayed {K : Type 0} (signs : Signs K) (wanting : Bool) (means : ℕ → Means) (of_boot : List (List Item)) (old new : Housed K) : Type 0 where
-  pub played : BootPlayed wanting old.house_log.facts (rows_before old.house_log) means of_boot (past new)
+pub record HouseBootPlayed {K : Type 0} (signs : KeeperSigns K) (wanting : Bool) (means : ℕ → Means) (of_boot : List (List Item)) (old new : Housed K) : Type 0 where
+  pub played : BootPlayed wanting (basis_in old.house_log) means of_boot (past new)
   pub grew : Grew (past old) (past new)
   pub rest : AtRest signs old new
 

@@ -19,7 +19,7 @@ use Rattle.update_log.specs.declared.refusal.FetchNote.{FetchNote}
 use Rattle.update_log.specs.declared.refusal.Refusal.{Refusal}
 use Rattle.update_log.specs.declared.request.Request.{Request}
 use Rattle.update_log.specs.Holding.{hold}
-use Rattle.update_log.specs.Known.{rows}
+use Rattle.update_log.specs.Known.{Basis, rows}
 use Rattle.update_log.specs.Legal.{IsLegal, Legal, next_entry}
 use Rattle.update_log.specs.Pasts.{boots, is_boot, is_of, off, past_of}
 use Rattle.update_log.specs.Shows.{Campaign, IsPrefix}
@@ -62,9 +62,9 @@ abbrev pub installs_begun : List Moment → List Wish
 installs_begun moments = filter_map (λ m. begun_by m.event) moments
 
 -- The entries that were put off to a boot that began so, and those for which these events ask, in order.
-abbrev pub rows_waiting : Facts → List Row → List Event → List ℕ
-rows_waiting facts opening [] = []
-rows_waiting facts opening (boot ∷ past) = entries_where is_pending (rows facts opening (boot ∷ past))
+abbrev pub rows_waiting : Basis → List Event → List ℕ
+rows_waiting basis [] = []
+rows_waiting basis (boot ∷ past) = entries_where is_pending (rows basis (boot ∷ past))
 
 abbrev pub row_begun_by : Event → Option ℕ
 row_begun_by (Event.Ask client request (Some entry) answer) = Some entry
@@ -128,34 +128,34 @@ Installs is_off next newer note answer =
 
 -- The client's next event is its claim. Where the verdict on the request still accepts then, and the payload of
 -- the release that was asked for is there, that is installed.
-pub record IsClaimed (facts : Facts) (opening : List Row) (files : Files) (is_off : Bool) (client : ℕ) (request : Request) (release : ReleaseRef) (asked later : List Event) : Type 0 where
+pub record IsClaimed (basis : Basis) (files : Files) (is_off : Bool) (client : ℕ) (request : Request) (release : ReleaseRef) (asked later : List Event) : Type 0 where
   pub note : FetchNote
   pub answer : ClaimAnswer
   pub next : NextOf client later (Event.Claim client request note answer)
-  pub fetched : IsFetched facts files release note
-  pub installs : IsAccept (verdict facts opening (next.between ++ asked) client request (Stage.Claim release)) → IsThere facts files release note → Installs is_off (next_entry facts opening (next.between ++ asked)) next.newer note answer
+  pub fetched : IsFetched basis.facts files release note
+  pub installs : IsAccept (verdict basis (next.between ++ asked) client request (Stage.Claim release)) → IsThere basis.facts files release note → Installs is_off (next_entry basis (next.between ++ asked)) next.newer note answer
 
 -- An ask that was accepted was answered with a hold, and was claimed or given up.
-pub record InstallComes (wanting : Bool) (facts : Facts) (opening : List Row) (files : Files) (past : List Event) (client : ℕ) (request : Request) (answer : AskAnswer) (stands : InBoot past (Event.Ask client request None answer)) : Type 0 where
+pub record InstallComes (wanting : Bool) (basis : Basis) (files : Files) (past : List Event) (client : ℕ) (request : Request) (answer : AskAnswer) (stands : InBoot past (Event.Ask client request None answer)) : Type 0 where
   pub blocks : ℕ
   pub release : ReleaseRef
   pub answer_is : answer ≡ AskAnswer.Hold blocks release
-  pub comes : IsClaimed facts opening files (off past) client request release (Event.Ask client request None answer ∷ stands.before) stands.later ⊎ IsGivenUp (off past) wanting client (Event.Ask client request None answer ∷ stands.before) stands.later
+  pub comes : IsClaimed basis files (off past) client request release (Event.Ask client request None answer ∷ stands.before) stands.later ⊎ IsGivenUp (off past) wanting client (Event.Ask client request None answer ∷ stands.before) stands.later
 
 -- The rows have one more at the end, with the next entry, which waits for a boot with that client's request.
-pub record IsPutOff (facts : Facts) (opening : List Row) (before : List Event) (client : ℕ) (request : Request) (event : Event) : Type 0 where
+pub record IsPutOff (basis : Basis) (before : List Event) (client : ℕ) (request : Request) (event : Event) : Type 0 where
   pub row : Row
-  pub rows_are : rows facts opening (event ∷ before) ≡ rows facts opening before ++ row ∷ []
-  pub entry_is : row.entry ≡ next_entry facts opening before
+  pub rows_are : rows basis (event ∷ before) ≡ rows basis before ++ row ∷ []
+  pub entry_is : row.entry ≡ next_entry basis before
   pub waits : row.state ≡ RowState.Pending
   pub client_is : row.client ≡ client
   pub tag_is : row.tag ≡ request.tag
 
 -- A request that was put off and accepted has the next entry, whose row waits for a boot. Or the history couldn't
 -- be written, and the boot is off.
-abbrev pub PutsOff : Facts → List Row → Bool → ℕ → Request → ClaimAnswer → List Event → Type 0
-PutsOff facts opening is_off client request answer before =
-    ((answer ≡ ClaimAnswer.Entry (next_entry facts opening before)) × IsPutOff facts opening before client request (Event.Schedule client request answer))
+abbrev pub PutsOff : Basis → Bool → ℕ → Request → ClaimAnswer → List Event → Type 0
+PutsOff basis is_off client request answer before =
+    ((answer ≡ ClaimAnswer.Entry (next_entry basis before)) × IsPutOff basis before client request (Event.Schedule client request answer))
     ⊎ ((answer ≡ ClaimAnswer.Refused Refusal.KeeperFault) × (is_off ≡ true))
 
 -- The row's entry was begun, and was finished behind that, or given back because the boot is off. Or the history
@@ -168,35 +168,35 @@ Begins is_off entry newer note answer =
 
 -- The daemon's next event is the resumption of the row. Where the verdict on the request still accepts then, and
 -- the payload of the release that was asked for is there, the entry begins.
-pub record IsResumed (facts : Facts) (opening : List Row) (files : Files) (is_off : Bool) (entry : ℕ) (request : Request) (release : ReleaseRef) (asked later : List Event) : Type 0 where
+pub record IsResumed (basis : Basis) (files : Files) (is_off : Bool) (entry : ℕ) (request : Request) (release : ReleaseRef) (asked later : List Event) : Type 0 where
   pub note : FetchNote
   pub answer : ResumeAnswer
   pub stored : Stored
   pub next : NextOf 0 later (Event.Resume 0 entry (Some note) answer stored)
-  pub fetched : IsFetched facts files release note
-  pub begins : IsAccept (verdict facts opening (next.between ++ asked) 0 request (Stage.Resume entry release)) → IsThere facts files release note → Begins is_off entry next.newer note answer
+  pub fetched : IsFetched basis.facts files release note
+  pub begins : IsAccept (verdict basis (next.between ++ asked) 0 request (Stage.Resume entry release)) → IsThere basis.facts files release note → Begins is_off entry next.newer note answer
 
 -- The ask for a row that was accepted was answered with a hold, and the row was resumed or given up.
-pub record ResumptionComes (wanting : Bool) (facts : Facts) (opening : List Row) (files : Files) (past : List Event) (entry : ℕ) (request : Request) (answer : AskAnswer) (stands : InBoot past (Event.Ask 0 request (Some entry) answer)) : Type 0 where
+pub record ResumptionComes (wanting : Bool) (basis : Basis) (files : Files) (past : List Event) (entry : ℕ) (request : Request) (answer : AskAnswer) (stands : InBoot past (Event.Ask 0 request (Some entry) answer)) : Type 0 where
   pub blocks : ℕ
   pub release : ReleaseRef
   pub answer_is : answer ≡ AskAnswer.Hold blocks release
-  pub comes : IsResumed facts opening files (off past) entry request release (Event.Ask 0 request (Some entry) answer ∷ stands.before) stands.later ⊎ IsGivenUp (off past) wanting 0 (Event.Ask 0 request (Some entry) answer ∷ stands.before) stands.later
+  pub comes : IsResumed basis files (off past) entry request release (Event.Ask 0 request (Some entry) answer ∷ stands.before) stands.later ⊎ IsGivenUp (off past) wanting 0 (Event.Ask 0 request (Some entry) answer ∷ stands.before) stands.later
 
 -- Boots.
 
 -- A boot does what it is to do. Each client begins each install of its script, and the daemon each row that waits
 -- for the boot; each of these that is accepted comes to its end. `files` has those of each client's shelf, and
 -- `wanting` says that memory was wanting.
-pub record BootCompletes (wanting : Bool) (facts : Facts) (opening : List Row) (files : ℕ → Files) (of_boot : List (List Item)) (past : List Event) : Type 0 where
+pub record BootCompletes (wanting : Bool) (basis : Basis) (files : ℕ → Files) (of_boot : List (List Item)) (past : List Event) : Type 0 where
   pub begun : (client : ℕ) → 0 < client → AreBegun (off past) wanting (installs_begun (mine client past)) (installs_wanted (items_of of_boot client))
   pub installs : (client : ℕ) (request : Request) (answer : AskAnswer) (stands : InBoot past (Event.Ask client request None answer)) → 0 < client
-      → IsAccept (verdict facts opening stands.before client request Stage.Ask) → InstallComes wanting facts opening (files client) past client request answer stands
+      → IsAccept (verdict basis stands.before client request Stage.Ask) → InstallComes wanting basis (files client) past client request answer stands
   pub put_off : (client : ℕ) (request : Request) (answer : ClaimAnswer) (stands : InBoot past (Event.Schedule client request answer))
-      → IsAccept (verdict facts opening stands.before client request Stage.Schedule) → PutsOff facts opening (off past) client request answer stands.before
-  pub resumed : AreBegun (off past) wanting (rows_begun (mine 0 past)) (rows_waiting facts opening (began past))
+      → IsAccept (verdict basis stands.before client request Stage.Schedule) → PutsOff basis (off past) client request answer stands.before
+  pub resumed : AreBegun (off past) wanting (rows_begun (mine 0 past)) (rows_waiting basis (began past))
   pub resumptions : (entry : ℕ) (request : Request) (answer : AskAnswer) (stands : InBoot past (Event.Ask 0 request (Some entry) answer))
-      → IsAccept (verdict facts opening stands.before 0 request (Stage.AskPending entry)) → ResumptionComes wanting facts opening (files 0) past entry request answer stands
+      → IsAccept (verdict basis stands.before 0 request (Stage.AskPending entry)) → ResumptionComes wanting basis (files 0) past entry request answer stands
 
 -- What each client plays with: the files of its shelf, and these plugins.
 abbrev pub means_with : {Q : Type 0} → (Q → PluginSteps) → List Q → (ℕ → Files) → ℕ → Means
@@ -205,8 +205,8 @@ means_with steps plugins files client = means_of (files client) (steps_at steps 
 -- In every campaign, a boot that was played over a legal log does what it is to do.
 abbrev pub BootsComplete : {Q : Type 0} → (Q → PluginSteps) → Type 0
 BootsComplete {Q = Q} steps =
-    (wanting : Bool) (c : Campaign) (opening : List Row) (plugins : List Q) (files : ℕ → Files) (of_boot : List (List Item)) (past : List Event)
-    → IsLegal c opening past → BootPlayed wanting c.facts opening (means_with steps plugins files) of_boot past → BootCompletes wanting c.facts opening files of_boot past
+    (wanting : Bool) (c : Campaign) (plugins : List Q) (files : ℕ → Files) (of_boot : List (List Item)) (past : List Event)
+    → IsLegal c past → BootPlayed wanting c.basis (means_with steps plugins files) of_boot past → BootCompletes wanting c.basis files of_boot past
 
 -- The past is a whole one as a boot of it ended.
 abbrev pub EndsBoot : List Event → List Event → Type 0
@@ -215,6 +215,6 @@ EndsBoot whole past = (past ≡ whole) ⊎ ((newer : List Event) × (boot : Even
 -- So does each boot of a campaign whose scripts were played.
 abbrev pub CampaignsComplete : {Q : Type 0} → (Q → PluginSteps) → Type 0
 CampaignsComplete {Q = Q} steps =
-    (wanting : Bool) (c : Campaign) (opening : List Row) (plugins : List Q) (files : ℕ → Files) (scripts : List (List (List Item))) (log past : List Event)
-    → Legal c opening log → Script wanting c.facts opening (means_with steps plugins files) scripts log → EndsBoot (past_of log) past
-    → BootCompletes wanting c.facts opening files (scripts_in scripts (boots past)) past
+    (wanting : Bool) (c : Campaign) (plugins : List Q) (files : ℕ → Files) (scripts : List (List (List Item))) (log past : List Event)
+    → Legal c log → Script wanting c.basis (means_with steps plugins files) scripts log → EndsBoot (past_of log) past
+    → BootCompletes wanting c.basis files (scripts_in scripts (boots past)) past

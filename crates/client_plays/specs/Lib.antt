@@ -15,6 +15,7 @@ pub mod Finished
 pub use Rattle.outer_traits.specs.Shelves as OuterTraitsShelves
 pub use Rattle.fw_facts.specs.Views
 pub use Rattle.emulated_boards.specs.Images
+pub use Rattle.history_keeper.specs.Signs
 pub use Rattle.update_log.specs.Holding
 pub use Rattle.update_log.specs.Known
 pub use Rattle.update_log.specs.Legal

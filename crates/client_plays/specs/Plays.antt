@@ -29,7 +29,7 @@ use Rattle.update_log.specs.declared.answer.ResumeAnswer.{ResumeAnswer}
 use Rattle.update_log.specs.declared.refusal.FetchNote.{FetchNote}
 use Rattle.update_log.specs.declared.request.Request.{Request}
 use Rattle.update_log.specs.declared.facts.Facts.{Facts}
-use Rattle.update_log.specs.Known.{board_of, rows, seen, views}
+use Rattle.update_log.specs.Known.{Basis, board_of, rows, seen, views}
 use Rattle.update_log.specs.Legal.{found_view}
 use Rattle.update_log.specs.Shows.{digest_of}
 use Rattle.daemon_core.specs.Claims.{IsServedBy}
@@ -70,48 +70,48 @@ StepsPlay steps client entry payload board (m ∷ n ∷ moments) =
     (next : BoardState) × StepPlays steps client entry payload board next m.event n.event × StepsPlay steps client entry payload next moments
 
 -- By this past the plugin of an entry's board stands at this place among the enabled ones.
-pub record IsOwnPlugin (facts : Facts) (opening : List Row) (past : List Event) (entry place : ℕ) : Type 0 where
+pub record IsOwnPlugin (basis : Basis) (past : List Event) (entry place : ℕ) : Type 0 where
   pub number : ℕ
-  pub board_is : board_of facts (rows facts opening past) entry ≡ Some number
-  pub served : IsServedBy facts number place
+  pub board_is : board_of basis.facts (rows basis past) entry ≡ Some number
+  pub served : IsServedBy basis.facts number place
 
 -- The update of an entry, by the past as it was taken. The plugin of its board made each step: of a board that
 -- shows what the log saw of it last, with a payload that has the digest of the entry's row.
-pub record UpdatePlays (facts : Facts) (opening : List Row) (plugins : ℕ → PluginSteps) (client entry : ℕ) (taken : List Event) (moments : List Moment) : Type 0 where
+pub record UpdatePlays (basis : Basis) (plugins : ℕ → PluginSteps) (client entry : ℕ) (taken : List Event) (moments : List Moment) : Type 0 where
   pub place : ℕ
-  pub own : IsOwnPlugin facts opening taken entry place
+  pub own : IsOwnPlugin basis taken entry place
   pub board : BoardState
-  pub shown : view_of board.condition ≡ seen facts opening taken own.number
+  pub shown : view_of board.condition ≡ seen basis taken own.number
   pub payload : SealedBytes
-  pub digest : digest_of (rows facts opening taken) entry ≡ payload.digest
+  pub digest : digest_of (rows basis taken) entry ≡ payload.digest
   pub plays : StepsPlay (plugins place) client entry payload board moments
 
 -- An install.
 
 -- What follows on the claim, by the past behind it: the update, where the claim took an entry.
-abbrev pub AfterClaim : Facts → List Row → (ℕ → PluginSteps) → ℕ → List Event → ClaimAnswer → List Moment → Type 0
-AfterClaim facts opening plugins client past (ClaimAnswer.Entry entry) moments = UpdatePlays facts opening plugins client entry past moments
-AfterClaim facts opening plugins client past (ClaimAnswer.Kept entry state) moments = moments ≡ []
-AfterClaim facts opening plugins client past (ClaimAnswer.Refused refusal) moments = moments ≡ []
+abbrev pub AfterClaim : Basis → (ℕ → PluginSteps) → ℕ → List Event → ClaimAnswer → List Moment → Type 0
+AfterClaim basis plugins client past (ClaimAnswer.Entry entry) moments = UpdatePlays basis plugins client entry past moments
+AfterClaim basis plugins client past (ClaimAnswer.Kept entry state) moments = moments ≡ []
+AfterClaim basis plugins client past (ClaimAnswer.Refused refusal) moments = moments ≡ []
 
 -- The claim, for which the release's payload was fetched from the client's shelf, and what follows on it.
-abbrev pub ClaimPlays : Facts → List Row → Means → ℕ → Request → ReleaseRef → List Moment → Type 0
-ClaimPlays facts opening means client request release [] = ⊥
-ClaimPlays facts opening means client request release (m ∷ moments) =
+abbrev pub ClaimPlays : Basis → Means → ℕ → Request → ReleaseRef → List Moment → Type 0
+ClaimPlays basis means client request release [] = ⊥
+ClaimPlays basis means client request release (m ∷ moments) =
     (note : FetchNote) × (answer : ClaimAnswer) × (m.event ≡ Event.Claim client request note answer)
-    × IsFetched facts means.files release note × AfterClaim facts opening means.plugins client (behind m) answer moments
+    × IsFetched basis.facts means.files release note × AfterClaim basis means.plugins client (behind m) answer moments
 
 -- What follows on the ask: the claim, where the ask was answered with a hold.
-abbrev pub AfterAsk : Facts → List Row → Means → ℕ → Request → AskAnswer → List Moment → Type 0
-AfterAsk facts opening means client request (AskAnswer.Hold blocks release) moments = ClaimPlays facts opening means client request release moments
-AfterAsk facts opening means client request (AskAnswer.Kept entry state) moments = moments ≡ []
-AfterAsk facts opening means client request (AskAnswer.Refused refusal) moments = moments ≡ []
+abbrev pub AfterAsk : Basis → Means → ℕ → Request → AskAnswer → List Moment → Type 0
+AfterAsk basis means client request (AskAnswer.Hold blocks release) moments = ClaimPlays basis means client request release moments
+AfterAsk basis means client request (AskAnswer.Kept entry state) moments = moments ≡ []
+AfterAsk basis means client request (AskAnswer.Refused refusal) moments = moments ≡ []
 
 -- The ask, and what follows on it.
-abbrev pub InstallPlays : Facts → List Row → Means → ℕ → Request → List Moment → Type 0
-InstallPlays facts opening means client request [] = ⊥
-InstallPlays facts opening means client request (m ∷ moments) =
-    (answer : AskAnswer) × (m.event ≡ Event.Ask client request None answer) × AfterAsk facts opening means client request answer moments
+abbrev pub InstallPlays : Basis → Means → ℕ → Request → List Moment → Type 0
+InstallPlays basis means client request [] = ⊥
+InstallPlays basis means client request (m ∷ moments) =
+    (answer : AskAnswer) × (m.event ≡ Event.Ask client request None answer) × AfterAsk basis means client request answer moments
 
 -- An install that is put off.
 abbrev pub SchedulePlays : ℕ → Request → Moment → Type 0
@@ -124,20 +124,20 @@ abbrev pub is_row_of : List ℕ → ℕ → Row → Bool
 is_row_of device entry row = (row.entry == entry) && bytes_eq row.device device
 
 -- A row was judged: one of the device that the selector finds in the past before.
-pub record JudgesFound (facts : Facts) (opening : List Row) (client : ℕ) (selector : Selector) (m : Moment) : Type 0 where
+pub record JudgesFound (basis : Basis) (client : ℕ) (selector : Selector) (m : Moment) : Type 0 where
   pub entry : ℕ
   pub version : List ℕ
   pub state : RowState
   pub stored : Stored
   pub view : DeviceView
   pub event_is : m.event ≡ Event.Judge client entry version state stored
-  pub found : found_view (views facts opening m.before) selector ≡ Some view
-  pub row : list_any (is_row_of view.sheet.device entry) (rows facts opening m.before) ≡ true
+  pub found : found_view (views basis m.before) selector ≡ Some view
+  pub row : list_any (is_row_of view.sheet.device entry) (rows basis m.before) ≡ true
 
 -- A device is settled by the judgement of a row of it, or else by the question alone.
-abbrev pub SettlePlays : Facts → List Row → ℕ → Selector → Moment → Type 0
-SettlePlays facts opening client selector m =
-    JudgesFound facts opening client selector m ⊎ (m.event ≡ Event.Query client (Query.Settle selector))
+abbrev pub SettlePlays : Basis → ℕ → Selector → Moment → Type 0
+SettlePlays basis client selector m =
+    JudgesFound basis client selector m ⊎ (m.event ≡ Event.Query client (Query.Settle selector))
 
 abbrev pub UnplugPlays : ℕ → Selector → Moment → Type 0
 UnplugPlays client selector m = (answer : PlugAnswer) × (m.event ≡ Event.Unplug client selector answer)
@@ -146,13 +146,13 @@ abbrev pub PlugPlays : ℕ → Selector → Moment → Type 0
 PlugPlays client selector m = (answer : PlugAnswer) × (m.event ≡ Event.Plug client selector answer)
 
 -- The events are the play of an item of that client, who has these means.
-abbrev pub Plays : Facts → List Row → Means → ℕ → Item → List Moment → Type 0
-Plays facts opening means client (Item.Ask query) moments = Alone (λ m. m.event ≡ Event.Query client query) moments
-Plays facts opening means client (Item.Install request) moments =
-    MatchBool request.flags.offline (Alone (SchedulePlays client request) moments) (InstallPlays facts opening means client request moments)
-Plays facts opening means client (Item.Settle selector) moments = Alone (SettlePlays facts opening client selector) moments
-Plays facts opening means client (Item.Unplug selector) moments = Alone (UnplugPlays client selector) moments
-Plays facts opening means client (Item.Plug selector) moments = Alone (PlugPlays client selector) moments
+abbrev pub Plays : Basis → Means → ℕ → Item → List Moment → Type 0
+Plays basis means client (Item.Ask query) moments = Alone (λ m. m.event ≡ Event.Query client query) moments
+Plays basis means client (Item.Install request) moments =
+    MatchBool request.flags.offline (Alone (SchedulePlays client request) moments) (InstallPlays basis means client request moments)
+Plays basis means client (Item.Settle selector) moments = Alone (SettlePlays basis client selector) moments
+Plays basis means client (Item.Unplug selector) moments = Alone (UnplugPlays client selector) moments
+Plays basis means client (Item.Plug selector) moments = Alone (PlugPlays client selector) moments
 
 -- What the daemon does by itself.
 
@@ -166,9 +166,9 @@ JudgePlays entry m =
     (version : List ℕ) × (state : RowState) × (stored : Stored) × (m.event ≡ Event.Judge 0 entry version state stored)
 
 -- What follows on the resumption, by the past behind it: the update, where it was begun.
-abbrev pub AfterResume : Facts → List Row → (ℕ → PluginSteps) → ℕ → List Event → ResumeAnswer → List Moment → Type 0
-AfterResume facts opening plugins entry past ResumeAnswer.Begun moments = UpdatePlays facts opening plugins 0 entry past moments
-AfterResume facts opening plugins entry past (ResumeAnswer.Refused refusal) moments = moments ≡ []
+abbrev pub AfterResume : Basis → (ℕ → PluginSteps) → ℕ → List Event → ResumeAnswer → List Moment → Type 0
+AfterResume basis plugins entry past ResumeAnswer.Begun moments = UpdatePlays basis plugins 0 entry past moments
+AfterResume basis plugins entry past (ResumeAnswer.Refused refusal) moments = moments ≡ []
 
 -- Where the ask was answered with a hold, the release's payload was fetched from the daemon's shelf; and
 -- else nothing was.
@@ -178,24 +178,24 @@ ResumeFetches facts files (AskAnswer.Kept entry state) note = note ≡ None
 ResumeFetches facts files (AskAnswer.Refused refusal) note = note ≡ None
 
 -- The resumption after an ask that was answered so, and what follows on it.
-abbrev pub ResumePlays : Facts → List Row → Means → ℕ → AskAnswer → List Moment → Type 0
-ResumePlays facts opening means entry asked [] = ⊥
-ResumePlays facts opening means entry asked (m ∷ moments) =
+abbrev pub ResumePlays : Basis → Means → ℕ → AskAnswer → List Moment → Type 0
+ResumePlays basis means entry asked [] = ⊥
+ResumePlays basis means entry asked (m ∷ moments) =
     (note : Option FetchNote) × (answer : ResumeAnswer) × (stored : Stored)
-    × (m.event ≡ Event.Resume 0 entry note answer stored) × ResumeFetches facts means.files asked note
-    × AfterResume facts opening means.plugins entry (behind m) answer moments
+    × (m.event ≡ Event.Resume 0 entry note answer stored) × ResumeFetches basis.facts means.files asked note
+    × AfterResume basis means.plugins entry (behind m) answer moments
 
 -- The ask for an entry that was put off, and what follows on it.
-abbrev pub PendingPlays : Facts → List Row → Means → ℕ → List Moment → Type 0
-PendingPlays facts opening means entry [] = ⊥
-PendingPlays facts opening means entry (m ∷ moments) =
+abbrev pub PendingPlays : Basis → Means → ℕ → List Moment → Type 0
+PendingPlays basis means entry [] = ⊥
+PendingPlays basis means entry (m ∷ moments) =
     (request : Request) × (answer : AskAnswer) × (m.event ≡ Event.Ask 0 request (Some entry) answer)
-    × ResumePlays facts opening means entry answer moments
+    × ResumePlays basis means entry answer moments
 
 -- The events are the play of a task of the daemon, which has these means.
-abbrev pub TaskPlays : Facts → List Row → Means → Task → List Moment → Type 0
-TaskPlays facts opening means (ToJudge entry) moments = Alone (JudgePlays entry) moments
-TaskPlays facts opening means (ToResume entry) moments = PendingPlays facts opening means entry moments
+abbrev pub TaskPlays : Basis → Means → Task → List Moment → Type 0
+TaskPlays basis means (ToJudge entry) moments = Alone (JudgePlays entry) moments
+TaskPlays basis means (ToResume entry) moments = PendingPlays basis means entry moments
 
 -- What is left of a play.
 

@@ -4,9 +4,8 @@ use Rattle.fw_facts.specs.declared.view.DeviceView.{DeviceView}
 use Rattle.fw_facts.specs.Views.{is_home}
 use Rattle.history_keeper.specs.declared.row.Row.{Row}
 use Rattle.update_log.specs.declared.event.Event.{Event}
-use Rattle.update_log.specs.declared.facts.Facts.{Facts}
 use Rattle.update_log.specs.Pasts.{boots, is_boot, off, past_of}
-use Rattle.update_log.specs.Known.{rows, views}
+use Rattle.update_log.specs.Known.{Basis, rows, views}
 use Rattle.update_log.specs.Legal.{may_judge}
 use Rattle.update_log.specs.Steps.{view_of_row}
 use Rattle.offline_updates.specs.Waiting.{entries_where, is_pending}
@@ -68,30 +67,30 @@ is_judgeable past views row =
 
 -- What the daemon does by itself in a boot that began so: it judges each row that can be judged, and
 -- then resumes each entry that was put off, in the order of the rows.
-abbrev pub tasks : Facts → List Row → List Event → List Task
-tasks facts opening [] = []
-tasks facts opening (boot ∷ past) =
-    map (λ row. ToJudge row.entry) (filter (is_judgeable (boot ∷ past) (views facts opening (boot ∷ past))) (rows facts opening (boot ∷ past)))
-    ++ map ToResume (entries_where is_pending (rows facts opening (boot ∷ past)))
+abbrev pub tasks : Basis → List Event → List Task
+tasks basis [] = []
+tasks basis (boot ∷ past) =
+    map (λ row. ToJudge row.entry) (filter (is_judgeable (boot ∷ past) (views basis (boot ∷ past))) (rows basis (boot ∷ past)))
+    ++ map ToResume (entries_where is_pending (rows basis (boot ∷ past)))
 
 -- The boot that runs was played: the daemon did its tasks, each client its script, and nobody else
 -- did anything. The daemon's events came before all clients', and the boot ends idle. `wanting` says that
 -- memory was wanting; `means` has those of each client.
-pub record BootPlayed (wanting : Bool) (facts : Facts) (opening : List Row) (means : ℕ → Means) (of_boot : List (List Item)) (past : List Event) : Type 0 where
-  pub daemon : PlayedSo (off past) wanting 0 (TaskPlays facts opening (means 0)) (tasks facts opening (began past)) (mine 0 past)
-  pub clients : (client : ℕ) → 0 < client → PlayedSo (off past) wanting client (Plays facts opening (means client) client) (items_of of_boot client) (mine client past)
+pub record BootPlayed (wanting : Bool) (basis : Basis) (means : ℕ → Means) (of_boot : List (List Item)) (past : List Event) : Type 0 where
+  pub daemon : PlayedSo (off past) wanting 0 (TaskPlays basis (means 0)) (tasks basis (began past)) (mine 0 past)
+  pub clients : (client : ℕ) → 0 < client → PlayedSo (off past) wanting client (Plays basis (means client) client) (items_of of_boot client) (mine client past)
   pub order : DaemonFirst past
   pub idle : EndsIdle past
 
 -- The boots before the one that runs were.
-abbrev pub EarlierPlayed : Bool → Facts → List Row → (ℕ → Means) → List (List (List Item)) → List Event → Type 0
-EarlierPlayed wanting facts opening means scripts [] = Unit {0}
-EarlierPlayed wanting facts opening means scripts (event ∷ past) =
-    MatchBool (is_boot event) (BootPlayed wanting facts opening means (scripts_in scripts (boots past)) past) (Unit {0})
-    × EarlierPlayed wanting facts opening means scripts past
+abbrev pub EarlierPlayed : Bool → Basis → (ℕ → Means) → List (List (List Item)) → List Event → Type 0
+EarlierPlayed wanting basis means scripts [] = Unit {0}
+EarlierPlayed wanting basis means scripts (event ∷ past) =
+    MatchBool (is_boot event) (BootPlayed wanting basis means (scripts_in scripts (boots past)) past) (Unit {0})
+    × EarlierPlayed wanting basis means scripts past
 
 -- All boots of a log were played.
-abbrev pub Script : Bool → Facts → List Row → (ℕ → Means) → List (List (List Item)) → List Event → Type 0
-Script wanting facts opening means scripts log =
-    BootPlayed wanting facts opening means (scripts_in scripts (boots (past_of log))) (past_of log)
-    × EarlierPlayed wanting facts opening means scripts (past_of log)
+abbrev pub Script : Bool → Basis → (ℕ → Means) → List (List (List Item)) → List Event → Type 0
+Script wanting basis means scripts log =
+    BootPlayed wanting basis means (scripts_in scripts (boots (past_of log))) (past_of log)
+    × EarlierPlayed wanting basis means scripts (past_of log)

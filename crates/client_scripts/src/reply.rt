@@ -6,8 +6,9 @@ use crate::devices::put_devices;
 use crate::named::device_named;
 use crate::releases::{put_releases, put_upgrades};
 use crate::rows::{put_history, put_results, put_settle};
+use core_state::CoreState;
 use fw_base::NoMemory;
-use update_log::{CoreState, Facts, Query};
+use update_log::{Facts, Query};
 
 /// Puts what a client is told behind a text: the lines of the reply to its question, over the rows and
 /// devices of a state. The facts are those that the state was made with. Where memory is wanting, the

@@ -7,12 +7,12 @@ use crate::lines::{LINES_MAX, put_left_out, put_no_device, put_none};
 use crate::named::{device_with, newest_of};
 use crate::parts::{put_number, put_retry};
 use crate::words::state_word;
+use core_state::CoreState;
 use fw_base::Name;
 use fw_facts::{DeviceView, Seen};
 use guid_ids::DeviceId;
 use history_keeper::Row;
 use std::alloc::AllocError;
-use update_log::CoreState;
 
 /// Puts the lines of the newest rows behind the text.
 pub fn put_history(out: &mut Vec<u8>, views: &[DeviceView], rows: &[Row]) -> Result<(), AllocError>

@@ -141,7 +141,7 @@ module _ {P : Type 0} (files : P → Files) (plugins : ℕ → PluginSteps) (fau
   module _ (told : ℕ → Files) (log : List Entry) (a : AllPlayed) (l : IsLogOf name log) (seen : All (λ (p : PassView Entry). BeginsWith log p.seen) (passes new)) (mine_are : All (HasItsEntries maker_of name.start log) (passes new))
       (makers : All (λ (e : Entry). maker_of e < length of_boot + 1) (beyond name.start log)) (shelves : (i : ℕ) (d : Client P) → i < length old → told (i + 1) ≡ files (get_or old i d).shelf) where
     one : (client i : ℕ) (d : Client P) → client ≡ i + 1 → i < length old → mine client (past_seen name.start) ≡ []
-        → PlayedSo (off (past_seen log)) (list_any (λ (c : Client P). c.wanting) new) client (Plays name.facts name.opening (means_of (told client) plugins) client) (items_of of_boot client) (mine client (past_seen log))
+        → PlayedSo (off (past_seen log)) (list_any (λ (c : Client P). c.wanting) new) client (Plays name.basis (means_of (told client) plugins) client) (items_of of_boot client) (mine client (past_seen log))
     one client i d e low none =
         let pass : Client P → PassView Entry = λ c. c.pass in
         let many : length new ≡ length old = a.count in
@@ -150,7 +150,7 @@ module _ {P : Type 0} (files : P → Files) (plugins : ℕ → PluginSteps) (fau
         let number : c.pass.number ≡ client = numbered own (length of_boot + 1) old i d a.dealt.begun low (let k = a.dealt.count in omega arith) ∙ sym e in
         let shelf : files c.shelf ≡ told client = sym (shelves i d low) ∙ ap told (sym e) in
         let wanting : Bool = list_any (λ (c : Client P). c.wanting) new in
-        let P' : ℕ → Files → Type 0 = λ k fs. PlayedSo (off (past_seen log)) wanting k (Plays name.facts name.opening (means_of fs plugins) k) (items_of of_boot k) (mine k (past_seen log)) in
+        let P' : ℕ → Files → Type 0 = λ k fs. PlayedSo (off (past_seen log)) wanting k (Plays name.basis (means_of fs plugins) k) (items_of of_boot k) (mine k (past_seen log)) in
         subst (λ (fs : Files). P' client fs) shelf
         (subst (λ (k : ℕ). P' k (files c.shelf)) number
         (one-played name log (start-log a) l files plugins faults lock of_boot c n (a.played i d low)
@@ -161,14 +161,14 @@ module _ {P : Type 0} (files : P → Files) (plugins : ℕ → PluginSteps) (fau
         (ap (λ (k : ℕ). mine k (past_seen name.start)) number ∙ none)))
 
     some : (client i : ℕ) (xs : List (Client P)) → xs ≡ old → client ≡ i + 1 → i < length old → mine client (past_seen name.start) ≡ []
-        → PlayedSo (off (past_seen log)) (list_any (λ (c : Client P). c.wanting) new) client (Plays name.facts name.opening (means_of (told client) plugins) client) (items_of of_boot client) (mine client (past_seen log))
+        → PlayedSo (off (past_seen log)) (list_any (λ (c : Client P). c.wanting) new) client (Plays name.basis (means_of (told client) plugins) client) (items_of of_boot client) (mine client (past_seen log))
     some client i [] s e low none = let n : 0 ≡ length old = ap length s in absurd (omega arith)
     some client i (d ∷ xs) s e low none = one client i d e low none
 
     stranger : (client : ℕ) → length of_boot + 1 ≤ client → mine client (past_seen name.start) ≡ []
-        → PlayedSo (off (past_seen log)) (list_any (λ (c : Client P). c.wanting) new) client (Plays name.facts name.opening (means_of (told client) plugins) client) (items_of of_boot client) (mine client (past_seen log))
+        → PlayedSo (off (past_seen log)) (list_any (λ (c : Client P). c.wanting) new) client (Plays name.basis (means_of (told client) plugins) client) (items_of of_boot client) (mine client (past_seen log))
     stranger client high none =
-        nothing-so (off (past_seen log)) (list_any (λ (c : Client P). c.wanting) new) client (Plays name.facts name.opening (means_of (told client) plugins) client) (items_of of_boot client) (mine client (past_seen log))
+        nothing-so (off (past_seen log)) (list_any (λ (c : Client P). c.wanting) new) client (Plays name.basis (means_of (told client) plugins) client) (items_of of_boot client) (mine client (past_seen log))
         (items-beyond of_boot client (omega arith))
         (stranger-quiet name log (start-log a) l (length of_boot + 1) client high makers ∙ none)
 

@@ -30,10 +30,10 @@ module _ {P : Type 0} (name : Name) (log : List Entry) (s : IsLogOf name name.st
   one-told = own-counted name log s l lock old.pass new.pass p.pass p.went.did.same f b m (faults old.shelf) (faults new.shelf) p.told
 
   pub one-played : (wanting : Bool) → (new.wanting ≡ true → wanting ≡ true) → mine old.pass.number (past_seen name.start) ≡ []
-      → PlayedSo (off (past_seen log)) wanting old.pass.number (Plays name.facts name.opening (means_of (files old.shelf) plugins) old.pass.number) (items_of of_boot old.pass.number) (mine old.pass.number (past_seen log))
+      → PlayedSo (off (past_seen log)) wanting old.pass.number (Plays name.basis (means_of (files old.shelf) plugins) old.pass.number) (items_of of_boot old.pass.number) (mine old.pass.number (past_seen log))
   one-played wanting told none =
       let n : ℕ = old.pass.number in
-      let Play : Item → List Moment → Type 0 = Plays name.facts name.opening (means_of (files old.shelf) plugins) n in
+      let Play : Item → List Moment → Type 0 = Plays name.basis (means_of (files old.shelf) plugins) n in
       let later : off (past_seen new.pass.seen) ≡ true → off (past_seen log) ≡ true = off-later name log s l lock old.pass new.pass p.pass p.went.did.same f b m in
       subst (λ (ms : List Moment). PlayedSo (off (past_seen log)) wanting n Play (items_of of_boot n) ms) (sym (own-moments none))
       (still-played n Play (items_of of_boot n) p.went.moments (off (past_seen new.pass.seen)) (off (past_seen log)) new.wanting wanting later told p.went.plays)

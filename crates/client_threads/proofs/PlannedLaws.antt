@@ -2,11 +2,10 @@
 use Rattle.std.proofs.Common.{◌≡◌, ℕ, Bool, false, List, [], ◌∷◌, ◌++◌, sym, subst}
 use Rattle.std.proofs.lemmas.Bool.{or_parts}
 use Rattle.std.specs.List.{list_any}
-use Rattle.history_keeper.specs.declared.row.Row.{Row}
 use Rattle.update_log.specs.declared.event.Event.{Event}
 use Rattle.update_log.specs.declared.facts.BootPlan.{BootPlan}
-use Rattle.update_log.specs.declared.facts.Facts.{Facts}
 use Rattle.update_log.specs.Pasts.{is_boot}
+use Rattle.update_log.specs.Known.{Basis}
 use Rattle.client_scripts.specs.declared.item.Item.{Item}
 use Rattle.client_plays.specs.Moments.{Grew}
 use Rattle.client_plays.specs.Scripts.{EarlierPlayed}
@@ -25,13 +24,13 @@ planned-more plans (event ∷ more) past b p =
 pub planned-grown : (plans : List BootPlan) (old new : List Event) → Grew old new → BootsPlanned plans old → BootsPlanned plans new
 planned-grown plans old new g p = subst (BootsPlanned plans) (sym g.are) (planned-more plans g.more old g.no_boot p)
 
-earlier-more : (wanting : Bool) (facts : Facts) (opening : List Row) (means : ℕ → Means) (scripts : List (List (List Item))) (more past : List Event) → list_any is_boot more ≡ false → EarlierPlayed wanting facts opening means scripts past → EarlierPlayed wanting facts opening means scripts (more ++ past)
-earlier-more wanting facts opening means scripts [] past b p = p
-earlier-more wanting facts opening means scripts (event ∷ more) past b p =
+earlier-more : (wanting : Bool) (basis : Basis) (means : ℕ → Means) (scripts : List (List (List Item))) (more past : List Event) → list_any is_boot more ≡ false → EarlierPlayed wanting basis means scripts past → EarlierPlayed wanting basis means scripts (more ++ past)
+earlier-more wanting basis means scripts [] past b p = p
+earlier-more wanting basis means scripts (event ∷ more) past b p =
     let q = or_parts (is_boot event) (list_any is_boot more) b in
-    let rest = earlier-more wanting facts opening means scripts more past q.1 p in
+    let rest = earlier-more wanting basis means scripts more past q.1 p in
     (rw q.0 tt, rest)
 
-pub earlier-grown : (wanting : Bool) (facts : Facts) (opening : List Row) (means : ℕ → Means) (scripts : List (List (List Item))) (old new : List Event) → Grew old new → EarlierPlayed wanting facts opening means scripts old → EarlierPlayed wanting facts opening means scripts new
-earlier-grown wanting facts opening means scripts old new g p =
-    subst (EarlierPlayed wanting facts opening means scripts) (sym g.are) (earlier-more wanting facts opening means scripts g.more old g.no_boot p)
+pub earlier-grown : (wanting : Bool) (basis : Basis) (means : ℕ → Means) (scripts : List (List (List Item))) (old new : List Event) → Grew old new → EarlierPlayed wanting basis means scripts old → EarlierPlayed wanting basis means scripts new
+earlier-grown wanting basis means scripts old new g p =
+    subst (EarlierPlayed wanting basis means scripts) (sym g.are) (earlier-more wanting basis means scripts g.more old g.no_boot p)

@@ -3,8 +3,6 @@ use Rattle.std.proofs.Common.{◌≡◌, ℕ, ◌<◌, Bool, true, zero, suc, Li
 use Rattle.std.proofs.lemmas.Bool.{eqb-true}
 use Rattle.std.proofs.lemmas.Option.{slice_get_past}
 use Rattle.std.specs.Prelude.{◌==◌}
-use Rattle.history_keeper.specs.declared.row.Row.{Row}
-use Rattle.update_log.specs.declared.facts.Facts.{Facts}
 use Rattle.client_scripts.specs.declared.item.Item.{Item}
 use Rattle.client_plays.specs.Moments.{Moment}
 use Rattle.client_plays.specs.Plays.{Leaves, Plays}
@@ -13,6 +11,7 @@ use Rattle.client_plays.specs.Tools.{Means}
 use Rattle.client_plays.proofs.PlayLaws.{item-unplayed}
 use Rattle.client_plays.proofs.RestLaws.{so-left}
 use Rattle.client_plays.proofs.ScriptLaws.{so-all, until-nothing}
+use Rattle.update_log.specs.Known.{Basis}
 
 -- Nothing to do.
 pub nothing-so : {X : Type 0} (is_off wanting : Bool) (client : ℕ) (Play : X → List Moment → Type 0) (xs : List X) (moments : List Moment) → xs ≡ [] → moments ≡ [] → PlayedSo is_off wanting client Play xs moments
@@ -34,16 +33,16 @@ all-left client Play [] h = refl
 all-left client Play (x ∷ xs) h =
     record { first = []; rest = []; are = refl; first_is = inr (record { left = h x; untaken = refl }); rest_is = all-left client Play xs h }
 
-module _ (facts : Facts) (opening : List Row) (means : Means) (client : ℕ) (items : List Item) (moments : List Moment) where
-  pub left-wanting : (is_off : Bool) → moments ≡ [] → PlayedSo is_off true client (Plays facts opening means client) items moments
+module _ (basis : Basis) (means : Means) (client : ℕ) (items : List Item) (moments : List Moment) where
+  pub left-wanting : (is_off : Bool) → moments ≡ [] → PlayedSo is_off true client (Plays basis means client) items moments
   left-wanting is_off m =
-      let Play : Item → List Moment → Type 0 = Plays facts opening means client in
+      let Play : Item → List Moment → Type 0 = Plays basis means client in
       subst (λ (ms : List Moment). PlayedSo is_off true client Play items ms) (sym m)
-      (so-all is_off true client Play items [] (all-left client Play items (λ item. item-unplayed facts opening means client item)))
+      (so-all is_off true client Play items [] (all-left client Play items (λ item. item-unplayed basis means client item)))
 
   -- And where nothing was done in a boot that is off.
-  pub left-off : (is_off wanting : Bool) → is_off ≡ true → moments ≡ [] → PlayedSo is_off wanting client (Plays facts opening means client) items moments
+  pub left-off : (is_off wanting : Bool) → is_off ≡ true → moments ≡ [] → PlayedSo is_off wanting client (Plays basis means client) items moments
   left-off is_off wanting o m =
-      let Play : Item → List Moment → Type 0 = Plays facts opening means client in
+      let Play : Item → List Moment → Type 0 = Plays basis means client in
       subst (λ (ms : List Moment). PlayedSo is_off wanting client Play items ms) (sym m)
-      (so-left is_off wanting client Play items [] o (until-nothing wanting client Play items (λ item. item-unplayed facts opening means client item)))
+      (so-left is_off wanting client Play items [] o (until-nothing wanting client Play items (λ item. item-unplayed basis means client item)))

@@ -1,13 +1,14 @@
 -- What the clients of a boot did to a house, round which their daemon began and closed.
 use Rattle.std.proofs.Common.{◌≡◌, ℕ, Bool, true, List, [], refl, ap, sym, ◌∙◌, subst}
 use Rattle.history_keeper.specs.declared.row.Row.{Row}
+use Rattle.history_keeper.specs.Signs.{KeeperSigns}
 use Rattle.update_log.specs.declared.event.Event.{Event}
 use Rattle.update_log.specs.declared.facts.Facts.{Facts}
 use Rattle.update_log.specs.Pasts.{off}
+use Rattle.update_log.specs.Known.{basis_of}
 use Rattle.daemon_core.specs.HouseLog.{IsHouseLog}
-use Rattle.daemon_core.specs.Housed.{Housed, past, rows_before}
+use Rattle.daemon_core.specs.Housed.{basis_in, Housed, past, rows_before}
 use Rattle.daemon_core.specs.Parts.{AllHome}
-use Rattle.daemon_core.specs.Turns.{Signs}
 use Rattle.client_scripts.specs.declared.item.Item.{Item}
 use Rattle.client_plays.specs.Endings.{IsIdle}
 use Rattle.client_plays.specs.Faults.{ShelvesCount}
@@ -26,7 +27,7 @@ use Rattle.client_threads.specs.Clients.{ClientsPlayed, PlayedBehind}
 use Rattle.client_threads.proofs.ShelfFaults.{count-closed}
 use Rattle.client_threads.proofs.Plays.{items-beyond, left-off, left-wanting, nothing-so}
 
-module _ {K : Type 0} (signs : Signs K) where
+module _ {K : Type 0} (signs : KeeperSigns K) where
   -- The daemon closed.
   module _ (name : Name) (old new : Housed K) (e : IsNameOf signs name old) (b : CanBegin signs old) (k : IsHouseLog old.house_log) (w : IsHouseLog new.house_log) (n : KeepsName signs name new) where
     begun : past_seen name.start ≡ past old
@@ -43,10 +44,10 @@ module _ {K : Type 0} (signs : Signs K) where
         record {
           daemon = ap (mine 0) (sym closed) ∙ p.daemon ∙ ap (mine 0) begun;
           clients = λ client c.
-              let P : Facts → List Row → List Event → Type 0 = λ f o es. PlayedSo (off es) wanting client (Plays f o (means client) client) (items_of of_boot client) (mine client es) in
+              let P : Facts → List Row → List Event → Type 0 = λ f o es. PlayedSo (off es) wanting client (Plays (basis_of f o) (means client) client) (items_of of_boot client) (mine client es) in
               subst (λ (f : Facts). P f (rows_before old.house_log) (past new)) e.facts_are
-              (subst (λ (o : List Row). P name.facts o (past new)) (rows-so signs name old e b k)
-              (subst (λ (es : List Event). P name.facts name.opening es) closed
+              (subst (λ (o : List Row). P name.basis.facts o (past new)) (rows-so signs name old e b k)
+              (subst (λ (es : List Event). P name.basis.facts name.basis.opening es) closed
               (p.clients client c (ap (mine client) begun ∙ none client c))));
           grew = subst (λ (es : List Event). Grew es (past new)) begun (subst (λ (es : List Event). Grew (past_seen name.start) es) closed (log-grew name (chronicle new) s l));
           rest = rest-so signs name old e b k new w n home nothing;
@@ -59,7 +60,7 @@ module _ {K : Type 0} (signs : Signs K) where
         record {
           daemon = refl;
           clients = λ client c.
-              nothing-so (off (past h)) wanting client (Plays h.house_log.facts (rows_before h.house_log) (means client) client) (items_of of_boot client) (mine client (past h))
+              nothing-so (off (past h)) wanting client (Plays (basis_in h.house_log) (means client) client) (items_of of_boot client) (mine client (past h))
               (ap (λ (all : List (List Item)). items_of all client) e ∙ items-beyond [] client c) (none client c);
           grew = grew-nothing (past h);
           rest = rest-here signs h i;
@@ -70,7 +71,7 @@ module _ {K : Type 0} (signs : Signs K) where
         record {
           daemon = refl;
           clients = λ client c.
-              left-off h.house_log.facts (rows_before h.house_log) (means client) client (items_of of_boot client) (mine client (past h)) (off (past h)) wanting o (none client c);
+              left-off (basis_in h.house_log) (means client) client (items_of of_boot client) (mine client (past h)) (off (past h)) wanting o (none client c);
           grew = grew-nothing (past h);
           rest = rest-here signs h i;
         }
@@ -80,7 +81,7 @@ module _ {K : Type 0} (signs : Signs K) where
         record {
           daemon = refl;
           clients = λ client c.
-              left-wanting h.house_log.facts (rows_before h.house_log) (means client) client (items_of of_boot client) (mine client (past h)) (off (past h)) (none client c);
+              left-wanting (basis_in h.house_log) (means client) client (items_of of_boot client) (mine client (past h)) (off (past h)) (none client c);
           grew = grew-nothing (past h);
           rest = rest-here signs h i;
         }

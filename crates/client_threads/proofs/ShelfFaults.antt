@@ -1,10 +1,10 @@
 -- What the log tells of the faults of shelves, over a boot.
 use Rattle.std.proofs.Common.{◌≡◌, ℕ, ◌<◌, ◌≤◌, zero, suc, List, [], ◌∷◌, ◌++◌, map, length, get_or, set, refl, ap, ◌∙◌, subst, arith}
 use Rattle.std.specs.Prelude.{Some, slice_get}
+use Rattle.history_keeper.specs.Signs.{KeeperSigns}
 use Rattle.update_log.specs.declared.event.Event.{Event}
 use Rattle.update_log.specs.declared.facts.BootPlan.{BootPlan}
 use Rattle.daemon_core.specs.Housed.{Housed, past}
-use Rattle.daemon_core.specs.Turns.{Signs}
 use Rattle.client_plays.specs.Faults.{Counted, FaultsTold, ShelvesCount, shelf_faults}
 use Rattle.client_plays.specs.Has.{shelf_told, shelves_told}
 use Rattle.client_plays.specs.Moments.{Did, Moment, mine}
@@ -54,20 +54,20 @@ module _ {P : Type 0} (files : P → Files) (faults : P → ℕ) (moments : List
       count-other old new did.grew n w.faults i.faults (other (suc n)) (le-same w.faults i.faults (ap (λ (s : ShelfTold). s.faults) same))
 
 -- The start of a boot tells of no shelf.
-count-begun : {K : Type 0} (signs : Signs K) (plan : BootPlan) (old new : Housed K) (shelves : List ShelfTold) → HasBegun signs plan old new → ShelvesCount (past old) (past new) shelves shelves
+count-begun : {K : Type 0} (signs : KeeperSigns K) (plan : BootPlan) (old new : Housed K) (shelves : List ShelfTold) → HasBegun signs plan old new → ShelvesCount (past old) (past new) shelves shelves
 count-begun signs plan old new shelves b = shelves-count_same (past old) (past new) shelves (λ place. ap (shelf_faults place) b.past_is)
 
-count-stopped : {K : Type 0} (signs : Signs K) (old new : Housed K) (shelves : List ShelfTold) → NoneBegan signs old new → ShelvesCount (past old) (past new) shelves shelves
+count-stopped : {K : Type 0} (signs : KeeperSigns K) (old new : Housed K) (shelves : List ShelfTold) → NoneBegan signs old new → ShelvesCount (past old) (past new) shelves shelves
 count-stopped signs old new shelves b = shelves-count_same (past old) (past new) shelves (λ place. ap (shelf_faults place) b.past_is)
 
 -- One boot more was begun and played.
-pub boot-counted : {K : Type 0} (signs : Signs K) (plan : BootPlan) (first old mid new : Housed K) (x y z : List ShelfTold) → ShelvesStay x y → ShelvesStay y z → HasBegun signs plan old mid → ShelvesCount (past first) (past old) x y → ShelvesCount (past mid) (past new) y z → ShelvesCount (past first) (past new) x z
+pub boot-counted : {K : Type 0} (signs : KeeperSigns K) (plan : BootPlan) (first old mid new : Housed K) (x y z : List ShelfTold) → ShelvesStay x y → ShelvesStay y z → HasBegun signs plan old mid → ShelvesCount (past first) (past old) x y → ShelvesCount (past mid) (past new) y z → ShelvesCount (past first) (past new) x z
 boot-counted signs plan first old mid new x y z s t b p q =
     shelves-count_both (past first) (past mid) (past new) x y z s t
     (shelves-count_both (past first) (past old) (past mid) x y y s (shelves-here y) p (count-begun signs plan old mid y b)) q
 
 -- No boot more was begun.
-pub stop-counted : {K : Type 0} (signs : Signs K) (first old new : Housed K) (x y : List ShelfTold) → ShelvesStay x y → NoneBegan signs old new → ShelvesCount (past first) (past old) x y → ShelvesCount (past first) (past new) x y
+pub stop-counted : {K : Type 0} (signs : KeeperSigns K) (first old new : Housed K) (x y : List ShelfTold) → ShelvesStay x y → NoneBegan signs old new → ShelvesCount (past first) (past old) x y → ShelvesCount (past first) (past new) x y
 stop-counted signs first old new x y s b p = shelves-count_both (past first) (past old) (past new) x y y s (shelves-here y) p (count-stopped signs old new y b)
 
 -- What the daemon's log tells, its house's past tells.

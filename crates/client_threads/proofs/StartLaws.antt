@@ -1,16 +1,15 @@
 -- The start of a boot.
 use Rattle.std.proofs.Common.{◌≡◌, ◌⊎◌, ◌≤◌, Bool, true, false, List, refl, ap, sym, ◌∙◌, subst, inl, inr}
 use Rattle.std.specs.Prelude.{MatchBool, Option, Result, Ok, Err}
-use Rattle.history_keeper.specs.declared.change.Change.{Change}
 use Rattle.history_keeper.specs.declared.row.Row.{Row}
 use Rattle.history_keeper.specs.Histories.{IsHistory}
+use Rattle.history_keeper.specs.Signs.{KeeperSigns}
 use Rattle.update_log.proofs.Pasts.{past-push}
 use Rattle.update_log.specs.declared.event.BoardSeen.{BoardSeen}
 use Rattle.update_log.specs.declared.event.Found.{Found}
 use Rattle.update_log.specs.declared.facts.BootPlan.{BootPlan}
-use Rattle.update_log.specs.CoreFolds.{AllFaults}
+use Rattle.update_log.specs.Pasts.{AllFaults, past_of}
 use Rattle.update_log.specs.Crashes.{next_boot}
-use Rattle.update_log.specs.Pasts.{past_of}
 use Rattle.daemon_core.specs.declared.booting.BootStop.{BootStop}
 use Rattle.daemon_core.specs.HouseLog.{IsHouseLog}
 use Rattle.daemon_core.specs.Booting.{AllStarted}
@@ -18,7 +17,7 @@ use Rattle.daemon_core.specs.Boots.{BootTurned, CouldntRead, NoBoot, WentWell}
 use Rattle.daemon_core.specs.Housed.{Housed, Place, past, rows_taken}
 use Rattle.daemon_core.specs.Keeping.{last_faulted}
 use Rattle.daemon_core.specs.Reading.{AreTold}
-use Rattle.daemon_core.specs.Turns.{KeeperFared, Signs}
+use Rattle.daemon_core.specs.Turns.{KeeperFared}
 use Rattle.daemon_core.proofs.Planned.{keeps-same, keeps-started, get-other}
 use Rattle.client_threads.specs.declared.ending.Ending.{Ending}
 use Rattle.client_threads.specs.Planned.{IsPlanned}
@@ -44,8 +43,8 @@ rows-first : (A : Type 0) (loaded new_loaded : Bool) (opening new_opening : List
 rows-first A true new_loaded opening new_opening Fault e f m = inl (ap (λ (b : Bool). rows_taken b new_opening) e ∙ m)
 rows-first A false new_loaded opening new_opening Fault e f m = inr (f refl)
 
-begun-well : {K : Type 0} (signs : Signs K) (doubted : K → Option Change) (settled : K → K → Type 0) (plan : BootPlan) (found : Found) (listed : List BoardSeen) (old new : Housed K) → IsHouseLog old.house_log → KeeperFared signs old new → signs.faults old.keeper ≤ signs.faults new.keeper → WentWell signs.tells doubted settled plan found listed old new → HasBegun signs plan old new
-begun-well signs doubted settled plan found listed old new k counted counts w =
+begun-well : {K : Type 0} (signs : KeeperSigns K) (settled : K → K → Type 0) (plan : BootPlan) (found : Found) (listed : List BoardSeen) (old new : Housed K) → IsHouseLog old.house_log → KeeperFared signs old new → signs.faults old.keeper ≤ signs.faults new.keeper → WentWell signs settled plan found listed old new → HasBegun signs plan old new
+begun-well signs settled plan found listed old new k counted counts w =
     record {
       facts = w.noted.grounds.facts;
       first = w.noted.grounds.first;
@@ -61,7 +60,7 @@ begun-well signs doubted settled plan found listed old new k counted counts w =
       opening = stays-well old.house_log.loaded new.house_log.loaded (signs.tells old.keeper) (signs.tells new.keeper) old.house_log.opening new.house_log.opening w.loaded w.opening;
     }
 
-begun-fault : {K : Type 0} (signs : Signs K) (plan : BootPlan) (listed : List BoardSeen) (old new : Housed K) → KeeperFared signs old new → signs.faults old.keeper ≤ signs.faults new.keeper → CouldntRead signs.tells plan listed old new → HasBegun signs plan old new
+begun-fault : {K : Type 0} (signs : KeeperSigns K) (plan : BootPlan) (listed : List BoardSeen) (old new : Housed K) → KeeperFared signs old new → signs.faults old.keeper ≤ signs.faults new.keeper → CouldntRead signs.tells plan listed old new → HasBegun signs plan old new
 begun-fault signs plan listed old new counted counts w =
     record {
       facts = w.noted.grounds.facts;
@@ -80,7 +79,7 @@ begun-fault signs plan listed old new counted counts w =
       opening = stays-same old.house_log.loaded new.house_log.loaded (signs.tells old.keeper) (signs.tells new.keeper) old.house_log.opening new.house_log.opening w.loaded w.stays w.opening;
     }
 
-none-began : {K : Type 0} (signs : Signs K) (old new : Housed K) → KeeperFared signs old new → signs.faults old.keeper ≤ signs.faults new.keeper → NoBoot signs.tells old new → (old.house_log.loaded ≡ true → new.house_log.opening ≡ old.house_log.opening) → OpeningStays signs.tells old new → NoneBegan signs old new
+none-began : {K : Type 0} (signs : KeeperSigns K) (old new : Housed K) → KeeperFared signs old new → signs.faults old.keeper ≤ signs.faults new.keeper → NoBoot signs.tells old new → (old.house_log.loaded ≡ true → new.house_log.opening ≡ old.house_log.opening) → OpeningStays signs.tells old new → NoneBegan signs old new
 none-began signs old new counted counts n o opening =
     record {
       facts = n.grounds.facts;
@@ -93,12 +92,12 @@ none-began signs old new counted counts n o opening =
       opening = opening;
     }
 
-pub started-so : {K : Type 0} (signs : Signs K) (doubted : K → Option Change) (settled : K → K → Type 0) (plan : BootPlan) (outcome : Result (Unit {0}) BootStop) (ending : Option Ending) (old new : Housed K) → ending ≡ ended_by outcome → IsHouseLog old.house_log → KeeperFared signs old new → signs.faults old.keeper ≤ signs.faults new.keeper → BootTurned signs.tells doubted settled plan outcome old new → StartedSo signs ending plan old new
-started-so signs doubted settled plan outcome ending old new e k counted counts t =
+pub started-so : {K : Type 0} (signs : KeeperSigns K) (settled : K → K → Type 0) (plan : BootPlan) (outcome : Result (Unit {0}) BootStop) (ending : Option Ending) (old new : Housed K) → ending ≡ ended_by outcome → IsHouseLog old.house_log → KeeperFared signs old new → signs.faults old.keeper ≤ signs.faults new.keeper → BootTurned signs settled plan outcome old new → StartedSo signs ending plan old new
+started-so signs settled plan outcome ending old new e k counted counts t =
     subst (λ (x : Option Ending). StartedSo signs x plan old new) (sym e) (so outcome t)
   where
-    so : (outcome : Result (Unit {0}) BootStop) → BootTurned signs.tells doubted settled plan outcome old new → StartedSo signs (ended_by outcome) plan old new
-    so (Ok unit) t = begun-well signs doubted settled plan t.0 t.1 old new k counted counts t.2
+    so : (outcome : Result (Unit {0}) BootStop) → BootTurned signs settled plan outcome old new → StartedSo signs (ended_by outcome) plan old new
+    so (Ok unit) t = begun-well signs settled plan t.0 t.1 old new k counted counts t.2
     so (Err BootStop.KeeperFault) t = begun-fault signs plan t.0 old new counted counts t.1
     so (Err (BootStop.BadHistory entry)) t = (
       none-began signs old new counted counts t.none (λ l. (t.later l).0)

@@ -1,8 +1,8 @@
 -- What each client of a boot does behind the lock, and what all of them do to a house.
 use Rattle.std.specs.Prelude.{◌≡◌, ◌<◌, ℕ, Bool, List, []}
+use Rattle.history_keeper.specs.Signs.{KeeperSigns}
 use Rattle.update_log.specs.Pasts.{off}
-use Rattle.daemon_core.specs.Housed.{Housed, past, rows_before}
-use Rattle.daemon_core.specs.Turns.{Signs}
+use Rattle.daemon_core.specs.Housed.{basis_in, Housed, past}
 use Rattle.client_scripts.specs.declared.item.Item.{Item}
 use Rattle.client_plays.specs.Endings.{AtRest}
 use Rattle.client_plays.specs.Faults.{FaultsTold}
@@ -30,14 +30,14 @@ pub record MayPlay {P : Type 0} (lock : LockId) (name : Name) (client : Client P
 -- each fault that the client's own events tell.
 pub record PlayedScript {P : Type 0} (files : P → Files) (plugins : ℕ → PluginSteps) (faults : P → ℕ) (lock : LockId) (name : Name) (of_boot : List (List Item)) (old new : Client P) : Type 0 where
   pub pass : IsPass lock name new.pass
-  pub went : PassWent new.wanting (Plays name.facts name.opening (means_of (files old.shelf) plugins) old.pass.number) (items_of of_boot old.pass.number) old.pass new.pass
+  pub went : PassWent new.wanting (Plays name.basis (means_of (files old.shelf) plugins) old.pass.number) (items_of of_boot old.pass.number) old.pass new.pass
   pub shelf : ShelfStays (shelf_told files faults old.shelf) (shelf_told files faults new.shelf)
   pub told : FaultsTold (own old.pass) (own new.pass) (faults old.shelf) (faults new.shelf)
 
 -- The clients of a boot went through their scripts, the daemon itself did nothing, and the house is at rest.
-pub record ClientsPlayed {K : Type 0} (signs : Signs K) (wanting : Bool) (means : ℕ → Means) (of_boot : List (List Item)) (old new : Housed K) : Type 0 where
+pub record ClientsPlayed {K : Type 0} (signs : KeeperSigns K) (wanting : Bool) (means : ℕ → Means) (of_boot : List (List Item)) (old new : Housed K) : Type 0 where
   pub daemon : mine 0 (past new) ≡ mine 0 (past old)
-  pub clients : (client : ℕ) → 0 < client → PlayedSo (off (past new)) wanting client (Plays old.house_log.facts (rows_before old.house_log) (means client) client) (items_of of_boot client) (mine client (past new))
+  pub clients : (client : ℕ) → 0 < client → PlayedSo (off (past new)) wanting client (Plays (basis_in old.house_log) (means client) client) (items_of of_boot client) (mine client (past new))
   pub grew : Grew (past old) (past new)
   pub rest : AtRest signs old new
 
@@ -45,4 +45,4 @@ pub record ClientsPlayed {K : Type 0} (signs : Signs K) (wanting : Bool) (means 
 -- nothing, and each client that had done nothing before went through its script.
 pub record PlayedBehind (wanting : Bool) (name : Name) (means : ℕ → Means) (of_boot : List (List Item)) (log : List Entry) : Type 0 where
   pub daemon : mine 0 (past_seen log) ≡ mine 0 (past_seen name.start)
-  pub clients : (client : ℕ) → 0 < client → mine client (past_seen name.start) ≡ [] → PlayedSo (off (past_seen log)) wanting client (Plays name.facts name.opening (means client) client) (items_of of_boot client) (mine client (past_seen log))
+  pub clients : (client : ℕ) → 0 < client → mine client (past_seen name.start) ≡ [] → PlayedSo (off (past_seen log)) wanting client (Plays name.basis (means client) client) (items_of of_boot client) (mine client (past_seen log))

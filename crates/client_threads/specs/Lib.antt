@@ -3,6 +3,7 @@ pub mod Runs
 pub mod Promises
 pub mod Clients
 pub use Rattle.turn_lock.specs.Shown
+pub use Rattle.history_keeper.specs.Signs
 pub use Rattle.update_log.specs.Legal
 pub use Rattle.update_log.specs.Pasts
 pub use Rattle.daemon_core.specs.HouseLog
@@ -22,7 +23,6 @@ pub use Rattle.client_plays.specs.Shelves
 pub use Rattle.client_plays.specs.Tools
 pub use Rattle.script_runs.specs.Passes
 pub use Rattle.fw_facts.specs.Views
-pub use Rattle.update_log.specs.CoreFolds
 pub use Rattle.update_log.specs.Crashes
 pub use Rattle.update_log.specs.Once
 pub use Rattle.update_log.specs.Shows

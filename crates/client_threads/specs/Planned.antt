@@ -1,14 +1,11 @@
 -- Boots by their plans.
 use Rattle.std.specs.Prelude.{◌≡◌, ℕ, IsTrue, List, [], ◌∷◌, Option, Some, slice_get, if◌then◌else◌}
-use Rattle.fw_facts.specs.declared.seen.Seen.{Seen}
 use Rattle.fw_facts.specs.Views.{is_home}
 use Rattle.update_log.specs.declared.event.Event.{Event}
 use Rattle.update_log.specs.declared.event.BoardSeen.{BoardSeen}
 use Rattle.update_log.specs.declared.facts.BootPlan.{BootPlan}
-use Rattle.update_log.specs.declared.facts.Facts.{Facts}
 use Rattle.update_log.specs.Legal.{is_absent, is_gone}
 use Rattle.update_log.specs.Pasts.{boots}
-use Rattle.update_log.specs.Shows.{Campaign}
 
 -- A boot has a plan's time and limit, and lists its absent boards as gone, and the others as home.
 pub record IsPlanned (plan : BootPlan) (time : ℕ) (limit : Option ℕ) (boards : List BoardSeen) : Type 0 where
@@ -22,7 +19,3 @@ BootsPlanned plans [] = Unit {0}
 BootsPlanned plans (Event.Boot number time limit found boards ∷ past) =
     ((plan : BootPlan) × (slice_get plans (boots past) ≡ Some plan) × IsPlanned plan time limit boards) × BootsPlanned plans past
 BootsPlanned plans (_ ∷ past) = BootsPlanned plans past
-
--- The campaign with these plans.
-abbrev pub with_plans : Facts → List Seen → List BootPlan → Campaign
-with_plans facts first plans = record { facts = facts; first = first; plans = plans }

@@ -2,18 +2,18 @@
 use Rattle.std.specs.Prelude.{◌≡◌, ◌⊎◌, ◌≤◌, ◌<◌, ℕ, Bool, true, MatchBool, List, [], ◌∷◌, length, Option, Some, None, Result, Ok, Err}
 use Rattle.history_keeper.specs.declared.row.Row.{Row}
 use Rattle.history_keeper.specs.Keepers.{StillTold}
+use Rattle.history_keeper.specs.Signs.{KeeperSigns}
 use Rattle.update_log.specs.declared.event.BoardSeen.{BoardSeen}
 use Rattle.update_log.specs.declared.event.Found.{Found}
 use Rattle.update_log.specs.declared.facts.BootPlan.{BootPlan}
-use Rattle.update_log.specs.CoreFolds.{AllFaults}
+use Rattle.update_log.specs.Pasts.{AllFaults, boots}
 use Rattle.update_log.specs.Crashes.{next_boot}
-use Rattle.update_log.specs.Pasts.{boots}
 use Rattle.daemon_core.specs.declared.booting.BootStop.{BootStop}
 use Rattle.daemon_core.specs.HouseLog.{IsHouseLog}
 use Rattle.daemon_core.specs.Boots.{ReadOthers}
-use Rattle.daemon_core.specs.Housed.{Housed, past, rows_before}
+use Rattle.daemon_core.specs.Housed.{basis_in, Housed, past, rows_before}
 use Rattle.daemon_core.specs.Reading.{AreTold}
-use Rattle.daemon_core.specs.Turns.{KeeperFared, Signs}
+use Rattle.daemon_core.specs.Turns.{KeeperFared}
 use Rattle.daemon_core.specs.Planned.{KeepsPlans}
 use Rattle.client_scripts.specs.declared.item.Item.{Item}
 use Rattle.client_plays.specs.Endings.{HouseBootPlayed, IsIdle, ReadLast}
@@ -43,13 +43,13 @@ OpeningStays told old new =
 -- So many boots of a campaign were run: each by its plan, in order, and played. Nobody has anything out,
 -- each fault of the keeper that the log tells was counted, and each board at home has the faults planned that
 -- its number had.
-pub record RanSoFar {K : Type 0} (signs : Signs K) (wanting : Bool) (means : ℕ → Means) (plans : List BootPlan) (scripts : List (List (List Item))) (count : ℕ) (old new : Housed K) : Type 0 where
+pub record RanSoFar {K : Type 0} (signs : KeeperSigns K) (wanting : Bool) (means : ℕ → Means) (plans : List BootPlan) (scripts : List (List (List Item))) (count : ℕ) (old new : Housed K) : Type 0 where
   pub facts : new.house_log.facts ≡ old.house_log.facts
   pub first : new.house_log.first ≡ old.house_log.first
   pub count_is : boots (past new) ≡ count
   pub planned : BootsPlanned plans (past new)
-  pub played : BootPlayed wanting new.house_log.facts (rows_before new.house_log) means (scripts_in scripts count) (past new)
-  pub earlier : EarlierPlayed wanting new.house_log.facts (rows_before new.house_log) means scripts (past new)
+  pub played : BootPlayed wanting (basis_in new.house_log) means (scripts_in scripts count) (past new)
+  pub earlier : EarlierPlayed wanting (basis_in new.house_log) means scripts (past new)
   pub idle : IsIdle (past new)
   pub counted : KeeperFared signs old new
   pub counts : signs.faults old.keeper ≤ signs.faults new.keeper
@@ -65,7 +65,7 @@ EndedSo told (Ending.BadHistory entry) plans count new = (count < length plans) 
 EndedSo told Ending.NoMemory plans count new = count < length plans
 
 -- The boots of a campaign were run, as far as it went.
-pub record CampaignRan {K : Type 0} (signs : Signs K) (ending : Ending) (wanting : Bool) (means : ℕ → Means) (plans : List BootPlan) (scripts : List (List (List Item))) (old new : Housed K) : Type 0 where
+pub record CampaignRan {K : Type 0} (signs : KeeperSigns K) (ending : Ending) (wanting : Bool) (means : ℕ → Means) (plans : List BootPlan) (scripts : List (List (List Item))) (old new : Housed K) : Type 0 where
   pub count : ℕ
   pub ran : RanSoFar signs wanting means plans scripts count old new
   pub ended : EndedSo signs.tells ending plans count new
@@ -73,7 +73,7 @@ pub record CampaignRan {K : Type 0} (signs : Signs K) (ending : Ending) (wanting
 -- A boot began by its plan: it stands behind the log, and nothing was done in it yet. The rows before the
 -- log are as before, unless no boot before could read the history, and the faults that are planned for the
 -- boards at home are.
-pub record HasBegun {K : Type 0} (signs : Signs K) (plan : BootPlan) (old new : Housed K) : Type 0 where
+pub record HasBegun {K : Type 0} (signs : KeeperSigns K) (plan : BootPlan) (old new : Housed K) : Type 0 where
   pub facts : new.house_log.facts ≡ old.house_log.facts
   pub first : new.house_log.first ≡ old.house_log.first
   pub found : Found
@@ -88,7 +88,7 @@ pub record HasBegun {K : Type 0} (signs : Signs K) (plan : BootPlan) (old new : 
   pub opening : OpeningStays signs.tells old new
 
 -- No boot began.
-pub record NoneBegan {K : Type 0} (signs : Signs K) (old new : Housed K) : Type 0 where
+pub record NoneBegan {K : Type 0} (signs : KeeperSigns K) (old new : Housed K) : Type 0 where
   pub facts : new.house_log.facts ≡ old.house_log.facts
   pub first : new.house_log.first ≡ old.house_log.first
   pub past_is : past new ≡ past old
@@ -112,11 +112,6 @@ ended_by (Err (BootStop.BadHistory entry)) = Some (Ending.BadHistory entry)
 ended_by (Err BootStop.NoMemory) = Some Ending.NoMemory
 
 -- What became of the start of a boot: it began, or why the campaign ends.
-abbrev pub StartedSo : {K : Type 0} → Signs K → Option Ending → BootPlan → Housed K → Housed K → Type 0
+abbrev pub StartedSo : {K : Type 0} → KeeperSigns K → Option Ending → BootPlan → Housed K → Housed K → Type 0
 StartedSo signs None plan old new = HasBegun signs plan old new
 StartedSo signs (Some ending) plan old new = NoneBegan signs old new × StoppedBy signs.tells ending old new
-
--- A boot was played, after others; `before` says that memory was wanting before.
-pub record BootMore {K : Type 0} (signs : Signs K) (wanting before : Bool) (means : ℕ → Means) (of_boot : List (List Item)) (old new : Housed K) : Type 0 where
-  pub played : HouseBootPlayed signs wanting means of_boot old new
-  pub told : before ≡ true → wanting ≡ true

@@ -1,14 +1,14 @@
 //! A campaign by a worker whose clients run on threads.
 ghost use Rattle.std.specs.Prelude.{◌≡◌, ◌≤◌, ◌<◌, ◌-◌, ◌^◌, [], false, All, length};
+ghost use Rattle.history_keeper.specs.Signs.{signs_of};
 ghost use Rattle.plugin_trait.specs.Steps.{steps_at};
 ghost use Rattle.update_log.specs.Legal.{IsLegal};
-ghost use Rattle.daemon_core.specs.Housed.{past, rows_before};
-ghost use Rattle.daemon_core.specs.Turns.{signs_of};
+ghost use Rattle.update_log.specs.Shows.{campaign_on};
+ghost use Rattle.daemon_core.specs.Housed.{basis_in, past};
 ghost use Rattle.client_plays.specs.Endings.{IsScriptItem};
 ghost use Rattle.client_plays.specs.Faults.{ShelvesCount};
 ghost use Rattle.client_plays.specs.Shelves.{means_for};
 ghost use Rattle.client_plays.specs.Tools.{Serves, ShelvesStay};
-ghost use Rattle.client_threads.specs.Planned.{with_plans};
 ghost use Rattle.client_threads.specs.Runs.{CampaignRan};
 ghost use Rattle.client_plays.specs.Has.{shelves_told, tools_of};
 
@@ -48,8 +48,8 @@ pub fn run_on_threads<R: Threads + Wait + Sync, K: Keeper + Send, P: Shelf + Sen
     requires proper { All (All (All IsScriptItem)) scripts.now }
     requires clients { All (λ of_boot. length of_boot ≤ 16) scripts.now }
     requires shelves { All (λ of_boot. length of_boot ≤ length (shelves_told P.files P.faults shelves.items)) scripts.now }
-    ensures ran { CampaignRan (signs_of K.tells K.faults) result.1.ending result.1.wanting (means_for (steps_at (λ p. steps p) plugins.items) (shelves_told P.files P.faults shelves.items)) plans.now scripts.now house result.0 }
-    ensures legal { IsLegal (with_plans result.0.house_log.facts result.0.house_log.first plans.now) (rows_before result.0.house_log) (past result.0) }
+    ensures ran { CampaignRan (signs_of K.tells K.doubt K.faults) result.1.ending result.1.wanting (means_for (steps_at (λ p. steps p) plugins.items) (shelves_told P.files P.faults shelves.items)) plans.now scripts.now house result.0 }
+    ensures legal { IsLegal (campaign_on (basis_in result.0.house_log) result.0.house_log.first plans.now) (past result.0) }
     ensures kept { ShelvesStay (shelves_told P.files P.faults shelves.items) (shelves_told P.files P.faults result.2.items) }
     ensures told { ShelvesCount (past house) (past result.0) (shelves_told P.files P.faults shelves.items) (shelves_told P.files P.faults result.2.items) }
 {

@@ -10,12 +10,13 @@ ghost use Rattle.client_plays.specs.Scripts.{items_of};
 ghost use Rattle.client_threads.specs.declared.clients.Client.{Client};
 ghost use Rattle.client_threads.specs.Clients.{MayPlay, PlayedScript};
 
+use crate::stage::Stage;
+use claim_runs::Runner;
 use client_scripts::Item;
 use daemon_core::House;
 use fw_base::Listed;
 use history_keeper::Keeper;
 use outer_traits::{Gate, Shelf};
-use plugin_trait::Plugin;
 use script_runs::play_script;
 use shared_daemon::{Daemon, Named, Naming, Pass};
 use std::sync::Wait;
@@ -44,17 +45,8 @@ trait Player<K: Keeper, N: Naming, P: Shelf> {
     fn play(&self, daemon: &Daemon<K, N>, client: &mut Client<P>)
         requires may { MayPlay daemon.now.id N.name client.old }
         requires proper { All (All IsScriptItem) (all self.now) }
-        requires served { length N.name.facts.vetoes ≤ plugins self.now }
+        requires served { length N.name.basis.facts.vetoes ≤ plugins self.now }
         ensures played { PlayedScript P.files (work self.now) P.faults daemon.now.id N.name (all self.now) client.old client.new };
-}
-
-// What all clients of a boot have.
-#[derive(Drop)]
-struct Stage<'a, R, G> {
-    rt: &'a R,
-    of_boot: &'a [Listed<Item>],
-    plugins: &'a [Box<dyn Plugin>],
-    gate: &'a G,
 }
 
 // The script of a client: client 1 has the first.
@@ -77,18 +69,21 @@ impl<'a, R: Wait, K: Keeper, N: Naming, P: Shelf, G: Gate> Player<K, N, P> for S
     fn play(&self, daemon: &Daemon<K, N>, client: &mut Client<P>)
         requires may { MayPlay daemon.now.id N.name client.old }
         requires proper { All (All IsScriptItem) self.now.of_boot.now }
-        requires served { length N.name.facts.vetoes ≤ length self.now.plugins.now }
+        requires served { length N.name.basis.facts.vetoes ≤ length self.now.plugins.now }
         ensures played { PlayedScript P.files (steps_at (λ p. steps p) self.now.plugins.now) P.faults daemon.now.id N.name self.now.of_boot.now client.old client.new }
     {
+        let runner = Runner {
+            rt: self.rt,
+            daemon,
+            gate: self.gate,
+        };
         let items = script_of(self.of_boot, client.pass.number() as usize - 1);
         client.wanting = play_script(
-            self.rt,
-            daemon,
+            &runner,
             &mut client.pass,
             &mut client.shelf,
             items,
             self.plugins,
-            self.gate,
         );
     }
 }
@@ -105,7 +100,7 @@ fn play_each<
     requires some { 0 < length clients.old }
     requires may { All (MayPlay daemon.now.id N.name) clients.old }
     requires proper { All (All IsScriptItem) (S.all player.now) }
-    requires served { length N.name.facts.vetoes ≤ S.plugins player.now }
+    requires served { length N.name.basis.facts.vetoes ≤ S.plugins player.now }
     ensures played { (i : ℕ) (d : Client P) → i < length clients.old → PlayedScript P.files (S.work player.now) P.faults daemon.now.id N.name (S.all player.now) (slice_index_or clients.old i d) (slice_index_or clients.new i d) }
 {
     let threads = clients.len();
@@ -114,7 +109,7 @@ fn play_each<
         clients,
         threads,
         &|_, client: &mut Client<P>|
-            requires { MayPlay daemon.now.id N.name client.now × All (All IsScriptItem) (S.all player.now) × (length N.name.facts.vetoes ≤ S.plugins player.now) }
+            requires { MayPlay daemon.now.id N.name client.now × All (All IsScriptItem) (S.all player.now) × (length N.name.basis.facts.vetoes ≤ S.plugins player.now) }
             ensures { PlayedScript P.files (S.work player.entry.now) P.faults daemon.entry.now.id N.name (S.all player.entry.now) client.entry.now client.exit.now }
         { player.play(daemon, client) },
     );
@@ -130,61 +125,39 @@ fn shares<T: Sync>()
     ensures { IsSync T.row }
 {}
 
-// The same, where the house under its name may go from thread to thread.
-fn play_shared<
-    R: Threads + Wait + Sync,
-    K: Keeper + Send,
-    N: Naming + Send + Sync,
-    P: Shelf + Send,
-    G: Gate + Sync,
->(
-    rt: &R,
-    daemon: &Daemon<K, N>,
-    clients: &mut [Client<P>],
-    of_boot: &[Listed<Item>],
-    plugins: &[Box<dyn Plugin>],
-    gate: &G,
-)
-    requires crosses { IsSend (named_row K.row N.row K.Keeper N.Naming) }
-    requires some { 0 < length clients.old }
-    requires may { All (MayPlay daemon.now.id N.name) clients.old }
-    requires proper { All (All IsScriptItem) of_boot.now }
-    requires served { length N.name.facts.vetoes ≤ length plugins.now }
-    ensures played { (i : ℕ) (d : Client P) → i < length clients.old → PlayedScript P.files (steps_at (λ p. steps p) plugins.now) P.faults daemon.now.id N.name of_boot.now (slice_index_or clients.old i d) (slice_index_or clients.new i d) }
-{
-    shares::<Daemon<K, N>>();
-    let stage = Stage {
-        rt,
-        of_boot,
-        plugins,
-        gate,
-    };
-    play_each(rt, daemon, clients, &stage);
-}
+impl<'a, R: Threads + Wait + Sync, G: Gate + Sync> Stage<'a, R, G> {
+    // The same, where the house under its name may go from thread to thread.
+    fn play_shared<K: Keeper + Send, N: Naming + Send + Sync, P: Shelf + Send>(
+        &self,
+        daemon: &Daemon<K, N>,
+        clients: &mut [Client<P>],
+    )
+        requires crosses { IsSend (named_row K.row N.row K.Keeper N.Naming) }
+        requires some { 0 < length clients.old }
+        requires may { All (MayPlay daemon.now.id N.name) clients.old }
+        requires proper { All (All IsScriptItem) self.now.of_boot.now }
+        requires served { length N.name.basis.facts.vetoes ≤ length self.now.plugins.now }
+        ensures played { (i : ℕ) (d : Client P) → i < length clients.old → PlayedScript P.files (steps_at (λ p. steps p) self.now.plugins.now) P.faults daemon.now.id N.name self.now.of_boot.now (slice_index_or clients.old i d) (slice_index_or clients.new i d) }
+    {
+        shares::<Daemon<K, N>>();
+        play_each(self.rt, daemon, clients, self);
+    }
 
-/// The clients play their scripts, each on a thread.
-pub(crate) fn play_all<
-    R: Threads + Wait + Sync,
-    K: Keeper + Send,
-    N: Naming + Send + Sync,
-    P: Shelf + Send,
-    G: Gate + Sync,
->(
-    rt: &R,
-    daemon: &Daemon<K, N>,
-    clients: &mut Vec<Client<P>>,
-    of_boot: &[Listed<Item>],
-    plugins: &[Box<dyn Plugin>],
-    gate: &G,
-)
-    requires some { 0 < length clients.old.items }
-    requires may { All (MayPlay daemon.now.id N.name) clients.old.items }
-    requires proper { All (All IsScriptItem) of_boot.now }
-    requires served { length N.name.facts.vetoes ≤ length plugins.now }
-    ensures count { length clients.new.items ≡ length clients.old.items }
-    ensures played { (i : ℕ) (d : Client P) → i < length clients.old.items → PlayedScript P.files (steps_at (λ p. steps p) plugins.now) P.faults daemon.now.id N.name of_boot.now (slice_index_or clients.old.items i d) (slice_index_or clients.new.items i d) }
-{
-    crosses::<House<K>>();
-    crosses::<Named<K, N>>();
-    play_shared(rt, daemon, clients.as_mut_slice(), of_boot, plugins, gate);
+    /// The clients play their scripts, each on a thread.
+    pub(crate) fn play_all<K: Keeper + Send, N: Naming + Send + Sync, P: Shelf + Send>(
+        &self,
+        daemon: &Daemon<K, N>,
+        clients: &mut Vec<Client<P>>,
+    )
+        requires some { 0 < length clients.old.items }
+        requires may { All (MayPlay daemon.now.id N.name) clients.old.items }
+        requires proper { All (All IsScriptItem) self.now.of_boot.now }
+        requires served { length N.name.basis.facts.vetoes ≤ length self.now.plugins.now }
+        ensures count { length clients.new.items ≡ length clients.old.items }
+        ensures played { (i : ℕ) (d : Client P) → i < length clients.old.items → PlayedScript P.files (steps_at (λ p. steps p) self.now.plugins.now) P.faults daemon.now.id N.name self.now.of_boot.now (slice_index_or clients.old.items i d) (slice_index_or clients.new.items i d) }
+    {
+        crosses::<House<K>>();
+        crosses::<Named<K, N>>();
+        self.play_shared(daemon, clients.as_mut_slice());
+    }
 }

@@ -13,6 +13,7 @@ mod clients;
 mod dealing;
 pub mod ending;
 mod running;
+mod stage;
 pub mod starting;
 mod tasks;
 

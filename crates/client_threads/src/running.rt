@@ -1,19 +1,19 @@
 //! The boots of a campaign, one after the other.
 ghost use Rattle.std.specs.Prelude.{◌≡◌, ◌≤◌, ◌<◌, ◌+◌, ◌-◌, ◌^◌, [], false, All, length};
+ghost use Rattle.history_keeper.specs.Signs.{signs_of};
 ghost use Rattle.plugin_trait.specs.Steps.{steps_at};
 ghost use Rattle.update_log.specs.Pasts.{boots};
 ghost use Rattle.daemon_core.specs.Housed.{past};
-ghost use Rattle.daemon_core.specs.Turns.{signs_of};
 ghost use Rattle.client_plays.specs.Endings.{IsCounted, IsFresh, IsIdle, IsScriptItem, ReadLast};
 ghost use Rattle.client_plays.specs.Faults.{ShelvesCount};
 ghost use Rattle.client_plays.specs.Has.{shelves_told, tools_of};
 ghost use Rattle.client_plays.specs.Scripts.{scripts_in};
 ghost use Rattle.client_plays.specs.Shelves.{means_for};
 ghost use Rattle.client_plays.specs.Tools.{Serves, ShelvesStay};
-ghost use Rattle.client_threads.specs.Runs.{BootMore, CampaignRan};
+ghost use Rattle.client_threads.specs.Runs.{CampaignRan};
 
-use crate::boot::play_boot;
 use crate::ending::{Ending, Ran};
+use crate::stage::Stage;
 use crate::starting::start_boot;
 use client_scripts::Item;
 use daemon_core::House;
@@ -26,34 +26,6 @@ use std::alloc::Global;
 use std::sync::Wait;
 use std::thread::Threads;
 use update_log::BootPlan;
-
-// Plays a boot. Says whether memory was wanting, now or before.
-fn play_next<R: Threads + Wait + Sync, K: Keeper + Send, P: Shelf + Send, G: Gate + Sync>(
-    rt: &R,
-    alloc: Global,
-    house: House<K>,
-    shelves: &mut Vec<P>,
-    of_boot: &[Listed<Item>],
-    plugins: &[Box<dyn Plugin>],
-    gate: &G,
-    wanting: bool,
-) -> (House<K>, bool)
-    requires booted { 0 < boots (past house) }
-    requires idle { IsIdle (past house) }
-    requires fresh { IsFresh (past house) }
-    requires counted { IsCounted (signs_of K.tells K.faults) house }
-    requires read { ReadLast house }
-    requires proper { All (All IsScriptItem) of_boot.now }
-    requires few { length of_boot.now ≤ 16 }
-    requires serves { Serves (tools_of P.files P.faults (length plugins.now) shelves.old.items) house.house_log.facts (length of_boot.now) }
-    ensures unread { house.house_log.loaded ≡ false → result.0 ≡ house }
-    ensures more { BootMore (signs_of K.tells K.faults) result.1 wanting (means_for (steps_at (λ p. steps p) plugins.now) (shelves_told P.files P.faults shelves.old.items)) of_boot.now house result.0 }
-    ensures kept { ShelvesStay (shelves_told P.files P.faults shelves.old.items) (shelves_told P.files P.faults shelves.new.items) }
-    ensures told { ShelvesCount (past house) (past result.0) (shelves_told P.files P.faults shelves.old.items) (shelves_told P.files P.faults shelves.new.items) }
-{
-    let (played, now) = play_boot(rt, alloc, house, shelves, of_boot, plugins, gate);
-    (played, either(wanting, now))
-}
 
 // The scripts of a boot.
 fn scripts_of(scripts: &[Listed<Listed<Item>>], number: usize) -> &[Listed<Item>]
@@ -92,7 +64,7 @@ pub(crate) fn run_boots<
     requires clients { All (λ of_boot. length of_boot ≤ 16) scripts.now }
     requires serves { Serves (tools_of P.files P.faults (length plugins.now) shelves.old.items) house.house_log.facts 0 }
     requires shelves { All (λ of_boot. length of_boot ≤ length (shelves_told P.files P.faults shelves.old.items)) scripts.now }
-    ensures ran { CampaignRan (signs_of K.tells K.faults) result.1.ending result.1.wanting (means_for (steps_at (λ p. steps p) plugins.now) (shelves_told P.files P.faults shelves.old.items)) plans.now scripts.now house result.0 }
+    ensures ran { CampaignRan (signs_of K.tells K.doubt K.faults) result.1.ending result.1.wanting (means_for (steps_at (λ p. steps p) plugins.now) (shelves_told P.files P.faults shelves.old.items)) plans.now scripts.now house result.0 }
     ensures kept { ShelvesStay (shelves_told P.files P.faults shelves.old.items) (shelves_told P.files P.faults shelves.new.items) }
     ensures told { ShelvesCount (past house) (past result.0) (shelves_told P.files P.faults shelves.old.items) (shelves_told P.files P.faults shelves.new.items) }
 {
@@ -103,11 +75,16 @@ pub(crate) fn run_boots<
             Some(ending) => return (house, Ran { ending, wanting }),
             None => {
                 let of_boot = scripts_of(scripts, number);
-                let (played, now) = play_next(
-                    rt, alloc, house, shelves, of_boot, plugins, gate, wanting,
-                );
+                let stage = Stage {
+                    rt,
+                    alloc,
+                    of_boot,
+                    plugins,
+                    gate,
+                };
+                let (played, now) = stage.play_boot(house, shelves);
                 house = played;
-                wanting = now;
+                wanting = either(wanting, now);
             }
         }
     }

@@ -1,8 +1,8 @@
 //! The start of a boot.
 ghost use Rattle.std.specs.Prelude.{◌≡◌, ◌≤◌, ◌<◌, ◌+◌, ◌-◌, ◌^◌};
+ghost use Rattle.history_keeper.specs.Signs.{signs_of};
 ghost use Rattle.update_log.specs.Pasts.{boots};
 ghost use Rattle.daemon_core.specs.Housed.{past};
-ghost use Rattle.daemon_core.specs.Turns.{signs_of};
 ghost use Rattle.client_plays.specs.Endings.{IsIdle};
 ghost use Rattle.client_threads.specs.Runs.{StartedSo, ended_by};
 
@@ -18,7 +18,7 @@ pub fn start_boot<K: Keeper>(alloc: Global, house: &mut House<K>, plan: &BootPla
     requires idle { IsIdle (past house.old) }
     requires few { boots (past house.old) + 1 < 2 ^ 32 }
     requires timely { plan.now.time ≤ 2 ^ 63 - 1 }
-    ensures { StartedSo (signs_of K.tells K.faults) result plan.now house.old house.new }
+    ensures { StartedSo (signs_of K.tells K.doubt K.faults) result plan.now house.old house.new }
 {
     house.known();
     let outcome = house.boot(alloc, plan);

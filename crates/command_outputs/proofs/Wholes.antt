@@ -6,7 +6,7 @@ use Rattle.update_log.specs.declared.facts.Facts.{Facts}
 use Rattle.update_log.specs.declared.decision.Decision.{Decision}
 use Rattle.update_log.specs.declared.decision.Stage.{Stage}
 use Rattle.update_log.specs.declared.request.Request.{Request}
-use Rattle.update_log.specs.Known.{views}
+use Rattle.update_log.specs.Known.{basis_of, views}
 use Rattle.update_log.specs.Verdicts.{verdict}
 use Rattle.command_outputs.specs.Explained.{asked, explained, heading, lines_for, verdict_line}
 
@@ -16,10 +16,10 @@ three_parts before first second third one two e f =
     ∙ append_assoc before (first ++ second) third
 
 pub explained_whole : (facts : Facts) (past : List Event) (port version : List ℕ) (request : Request) (shown : List DeviceView) (decision : Decision) (before one two : List ℕ)
-    → request ≡ asked port version → shown ≡ views facts [] past → decision ≡ verdict facts [] past 1 request Stage.Ask
+    → request ≡ asked port version → shown ≡ views (basis_of facts []) past → decision ≡ verdict (basis_of facts []) past 1 request Stage.Ask
     → one ≡ before ++ heading port version → two ≡ one ++ lines_for facts shown request
     → two ++ verdict_line decision ≡ before ++ explained facts past port version
 explained_whole facts past port version request shown decision before one two r s d e f =
-    ap (λ it. two ++ verdict_line it) (d ∙ ap (λ it. verdict facts [] past 1 it Stage.Ask) r)
-    ∙ three_parts before (heading port version) (lines_for facts (views facts [] past) (asked port version)) (verdict_line (verdict facts [] past 1 (asked port version) Stage.Ask)) one two e
-    (f ∙ ap (λ it. one ++ lines_for facts it request) s ∙ ap (λ it. one ++ lines_for facts (views facts [] past) it) r)
+    ap (λ it. two ++ verdict_line it) (d ∙ ap (λ it. verdict (basis_of facts []) past 1 it Stage.Ask) r)
+    ∙ three_parts before (heading port version) (lines_for facts (views (basis_of facts []) past) (asked port version)) (verdict_line (verdict (basis_of facts []) past 1 (asked port version) Stage.Ask)) one two e
+    (f ∙ ap (λ it. one ++ lines_for facts it request) s ∙ ap (λ it. one ++ lines_for facts (views (basis_of facts []) past) it) r)

@@ -16,7 +16,7 @@ use Rattle.update_log.specs.declared.decision.Decision.{Decision}
 use Rattle.update_log.specs.declared.decision.Decision.TheVariants as decisions
 use Rattle.update_log.specs.declared.decision.Stage.{Stage}
 use Rattle.update_log.specs.declared.request.Request.{Request}
-use Rattle.update_log.specs.Known.{views}
+use Rattle.update_log.specs.Known.{basis_of, views}
 use Rattle.update_log.specs.Verdicts.{features_for, verdict}
 use Rattle.report_text.specs.Refusals.{cause_text, refused_text}
 use Rattle.report_text.specs.Lines.{kept_text}
@@ -88,5 +88,5 @@ verdict_line decision = codes "verdict " ++ verdict_text decision ++ codes "\n"
 -- the request is judged as an ask of client 1 after this past, before which there were no rows
 abbrev pub explained : Facts → List Event → List ℕ → List ℕ → List ℕ
 explained facts past port version =
-    heading port version ++ lines_for facts (views facts [] past) (asked port version)
-    ++ verdict_line (verdict facts [] past 1 (asked port version) Stage.Ask)
+    heading port version ++ lines_for facts (views (basis_of facts []) past) (asked port version)
+    ++ verdict_line (verdict (basis_of facts []) past 1 (asked port version) Stage.Ask)

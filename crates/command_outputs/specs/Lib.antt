@@ -8,7 +8,7 @@ pub use Rattle.fw_facts.specs.Views
 pub use Rattle.requirements.specs.Requirements
 pub use Rattle.release_catalogue.specs.Lookup
 pub use Rattle.device_list.specs.Lists
-pub use Rattle.update_log.specs.Core
+pub use Rattle.core_state.specs.Core
 pub use Rattle.update_log.specs.Known
 pub use Rattle.update_log.specs.Pasts
 pub use Rattle.update_log.specs.Verdicts

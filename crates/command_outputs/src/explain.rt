@@ -2,18 +2,20 @@
 ghost use Rattle.std.specs.Prelude.{◌≡◌, ◌≤◌, ◌++◌, [], OnOk, OnErr, IsErrOf};
 ghost use Rattle.outer_traits.specs.Faults.{Rose};
 ghost use Rattle.outer_traits.specs.Sinks.{Took, TookFront};
-ghost use Rattle.update_log.specs.Core.{Stands};
+ghost use Rattle.core_state.specs.Core.{Stands};
 ghost use Rattle.update_log.specs.Pasts.{past_of};
+ghost use Rattle.update_log.specs.Known.{basis_of};
 ghost use Rattle.command_outputs.specs.Explained.{asked, explained};
 
 use crate::explained_lines::{put_heading, put_verdict};
 use crate::requirements_met::put_lines;
 use crate::stop::OutputStop;
+use core_state::{CoreState, verdict};
 use device_list::Selector;
 use fw_base::Name;
 use outer_traits::{Sink, write_whole};
 use std::alloc::{AllocError, Global};
-use update_log::{CoreState, Facts, InstallFlags, Request, Stage, verdict};
+use update_log::{Facts, InstallFlags, Request, Stage};
 use version_formats::Version;
 
 /// An install of a version at a port, without flags, that tries no row again.
@@ -40,7 +42,7 @@ fn put_explained(
     port: Name,
     version: Version,
 ) -> Result<(), AllocError>
-    requires { Stands facts.now [] state.now }
+    requires { Stands (basis_of facts.now []) state.now }
     ensures { OnOk result (out.new.items ≡ out.old.items ++ explained facts.now (past_of state.now.log) port version) }
 {
     let request = asked(port, version);
@@ -63,7 +65,7 @@ pub fn write_explain<T: Sink>(
     version: Version,
     out: &mut T,
 ) -> Result<(), OutputStop>
-    requires { Stands facts.now [] state.now }
+    requires { Stands (basis_of facts.now []) state.now }
     ensures whole { OnOk result (Took (explained facts.now (past_of state.now.log) port version) (T.taken out.old) (T.taken out.new)) }
     ensures front { OnErr result (TookFront (explained facts.now (past_of state.now.log) port version) (T.taken out.old) (T.taken out.new)) }
     ensures nothing { IsErrOf result OutputStop.NoMemory → T.taken out.new ≡ T.taken out.old }

@@ -9,13 +9,14 @@ ghost use Rattle.update_log.specs.Verdicts.{features_for};
 ghost use Rattle.command_outputs.specs.Explained.{lines_at, lines_for, requirement_lines};
 
 use crate::explained_lines::put_requirement;
+use core_state::CoreState;
 use fw_base::Name;
-use fw_facts::{Component, DeviceView, Requirement, Seen};
+use fw_facts::{Component, DeviceView, Requirement};
 use guid_ids::Guid;
 use release_catalogue::Catalogue;
 use requirements::{UnmetCause, first_unmet};
 use std::alloc::AllocError;
-use update_log::{CoreState, Facts, Request};
+use update_log::{Facts, Request, is_home};
 use version_formats::Version;
 
 /// The lines for the device of a request.
@@ -61,15 +62,6 @@ fn put_lines_at(
             component.requirements.items(),
         ),
         None => Ok(()),
-    }
-}
-
-fn is_home(seen: Seen) -> bool
-    ensures { result ≡ is_home seen }
-{
-    match seen {
-        Seen::Home { .. } => true,
-        Seen::Gone | Seen::Stranger => false,
     }
 }
 

@@ -17,7 +17,7 @@ use Rattle.update_log.proofs.Accepts.{none-refuses}
 use Rattle.update_log.proofs.Placed.{chosen-placed}
 use Rattle.update_log.proofs.Lists.{by_test}
 use Rattle.update_log.specs.Holding.{blocks_of, held, hold, hold_of, holds, without_client}
-use Rattle.update_log.specs.Known.{Target, target, target_at, target_of, views, doubt}
+use Rattle.update_log.specs.Known.{Basis, Target, target, target_at, target_of, views, doubt}
 use Rattle.update_log.specs.Legal.{ask_stage}
 use Rattle.update_log.specs.Verdicts.{Case, case_of, decided, first_refusal, is_that_release, kept, need, no_room, on_found, on_kept, on_present, on_target, present, refusals, refused_or, verdict, wants_room, where_so}
 use Rattle.update_log.specs.declared.answer.AskAnswer.{AskAnswer}
@@ -29,10 +29,11 @@ use Rattle.update_log.specs.declared.refusal.Refusal.{Refusal}
 use Rattle.update_log.specs.declared.request.Request.{Request}
 use Rattle.block_pool.specs.Views.{PoolCounts}
 use Rattle.history_keeper.specs.declared.change.Change.{Change}
+use Rattle.history_keeper.specs.Signs.{KeeperSigns}
 use Rattle.update_log.specs.Pasts.{off}
 use Rattle.daemon_core.specs.HouseLog.{Appended, IsHouseLog}
 use Rattle.daemon_core.specs.House.{IsHouse}
-use Rattle.daemon_core.specs.Housed.{HouseLogView, Housed, past, past_in, rows_before}
+use Rattle.daemon_core.specs.Housed.{basis_in, HouseLogView, Housed, past, past_in}
 use Rattle.fw_facts.specs.declared.release.Component.{Component}
 use Rattle.daemon_core.specs.Keeping.{KeepsSo}
 use Rattle.daemon_core.specs.Owed.{hold_needs, owed}
@@ -105,17 +106,17 @@ pub record Found (facts : Facts) (past : List Event) (at : ReleaseRef) (blocks :
   pub blocks_are : blocks ≡ blocks_of release.size
   pub fits : blocks ≤ facts.pool - held past
 
-pub ask-found : (facts : Facts) (opening : List Row) (past : List Event) (client : ℕ) (request : Request) (pending : Option ℕ) (device blocks : ℕ) (at : ReleaseRef)
-    → verdict facts opening past client request (ask_stage pending) ≡ Decision.Accept device at blocks → Found facts past at blocks
-ask-found facts opening past client request pending device blocks at h =
-    let c = case_of facts opening past client request (ask_stage pending) in
+pub ask-found : (basis : Basis) (past : List Event) (client : ℕ) (request : Request) (pending : Option ℕ) (device blocks : ℕ) (at : ReleaseRef)
+    → verdict basis past client request (ask_stage pending) ≡ Decision.Accept device at blocks → Found basis.facts past at blocks
+ask-found basis past client request pending device blocks at h =
+    let c = case_of basis past client request (ask_stage pending) in
     let a = accepted c device blocks at h in
     let t : Target = a.0 in
-    let fit = fits-so (wants_room (ask_stage pending)) (need t) (facts.pool - held past) (ask-wants pending) a.1.fits in
+    let fit = fits-so (wants_room (ask_stage pending)) (need t) (basis.facts.pool - held past) (ask-wants pending) a.1.fits in
     let n = a.1.needs in
     record {
       release = t.chosen.release;
-      there = subst (λ (r : ReleaseRef). IsReleaseAt facts.catalogue r t.chosen.release) (sym a.1.at) (target-placed facts (views facts opening past) request t a.1.found);
+      there = subst (λ (r : ReleaseRef). IsReleaseAt basis.facts.catalogue r t.chosen.release) (sym a.1.at) (target-placed basis.facts (views basis past) request t a.1.found);
       blocks_are = n;
       fits = omega (arith, fit, n);
     }
@@ -129,8 +130,8 @@ without-none client (x ∷ xs) h =
     (λ f. let e : hold_of xs client ≡ None = rw f at h in rw f (ap (λ (l : List Held). x ∷ l) (without-none client xs e)))
 
 -- An ask leaves what is said of each board.
-pub ask-board : (facts : Facts) (first : List Seen) (opening : List Row) (past : List Event) (client : ℕ) (request : Request) (pending : Option ℕ) (answer : AskAnswer) (number : ℕ) → SameOfBoard facts first opening past (Event.Ask client request pending answer ∷ past) number
-ask-board facts first opening past client request pending answer number =
+pub ask-board : (basis : Basis) (first : List Seen) (past : List Event) (client : ℕ) (request : Request) (pending : Option ℕ) (answer : AskAnswer) (number : ℕ) → SameOfBoard basis first past (Event.Ask client request pending answer ∷ past) number
+ask-board basis first past client request pending answer number =
     record { told = append-nil _; out = refl; opened = refl; marks = refl; booted = λ h. h; seen = refl; before = refl; began = refl; raws = λ entry raw h. h; faults = refl }
 
 hold-more : (b : Bool) (n : ℕ) → hold_needs b * (n + 1) ≤ hold_needs b * n + 2
@@ -152,21 +153,21 @@ held-more past client request pending blocks release h =
     rw e (omega arith)
 
 -- A house, after an ask that was accepted.
-pub house-held : {K : Type 0} (told : K → List Row → Type 0) (doubted : K → Option Change) (client : ℕ) (request : Request) (pending : Option ℕ) (blocks : ℕ) (release : ReleaseRef) (old : Housed K) (new : HouseLogView) (pool : PoolCounts) → IsHouse told doubted old → IsHouseLog old.house_log → IsHouseLog new → Appended client (Event.Ask client request pending (AskAnswer.Hold blocks release)) old.house_log new → old.house_log.loaded ≡ true
-    → hold (past old) client ≡ None → pool.capacity ≡ old.pool.capacity → pool.free + blocks ≡ old.pool.free → IsHouse told doubted (record old { house_log = new; pool = pool })
-house-held told doubted client request pending blocks release old new pool h o k a l none cap free =
+pub house-held : {K : Type 0} (signs : KeeperSigns K) (client : ℕ) (request : Request) (pending : Option ℕ) (blocks : ℕ) (release : ReleaseRef) (old : Housed K) (new : HouseLogView) (pool : PoolCounts) → IsHouse signs old → IsHouseLog old.house_log → IsHouseLog new → Appended client (Event.Ask client request pending (AskAnswer.Hold blocks release)) old.house_log new → old.house_log.loaded ≡ true
+    → hold (past old) client ≡ None → pool.capacity ≡ old.pool.capacity → pool.free + blocks ≡ old.pool.free → IsHouse signs (record old { house_log = new; pool = pool })
+house-held signs client request pending blocks release old new pool h o k a l none cap free =
     let more = held-more (past old) client request pending blocks release none in
     let was = h.free in
-    house-next told doubted client (Event.Ask client request pending (AskAnswer.Hold blocks release)) old (record old { house_log = new; pool = pool }) h a k
+    house-next signs client (Event.Ask client request pending (AskAnswer.Hold blocks release)) old (record old { house_log = new; pool = pool }) h a k
     (record {
       count = refl;
       places = λ number place e.
-          place-same old.house_log.facts old.house_log.first (rows_before old.house_log) (past old) (Event.Ask client request pending (AskAnswer.Hold blocks release) ∷ past old) number place
-          (ask-board old.house_log.facts old.house_log.first (rows_before old.house_log) (past old) client request pending (AskAnswer.Hold blocks release) number) (h.places number place e);
+          place-same (basis_in old.house_log) old.house_log.first (past old) (Event.Ask client request pending (AskAnswer.Hold blocks release) ∷ past old) number place
+          (ask-board (basis_in old.house_log) old.house_log.first (past old) client request pending (AskAnswer.Hold blocks release) number) (h.places number place e);
       loaded = l;
       kept =
-          subst (λ (x : List Row). KeepsSo old.house_log.reopened told doubted old.keeper x (doubt old.house_log.facts (rows_before old.house_log) (past old))) o.stands.rows
-          (subst (λ (x : Option Change). KeepsSo old.house_log.reopened told doubted old.keeper old.house_log.core.rows x) o.stands.doubt (h.kept l));
+          subst (λ (x : List Row). KeepsSo old.house_log.reopened signs old.keeper x (doubt (basis_in old.house_log) (past old))) o.stands.rows
+          (subst (λ (x : Option Change). KeepsSo old.house_log.reopened signs old.keeper old.house_log.core.rows x) o.stands.doubt (h.kept l));
       capacity = cap;
       free = omega (arith, more, was, free);
     })
@@ -180,6 +181,6 @@ release-same catalogue at a b k l =
 
 -- What was accepted over a house log, over one that is the same.
 pub found-over : (a b : HouseLogView) (client : ℕ) (request : Request) (pending : Option ℕ) (at : ReleaseRef) (blocks : ℕ) → b ≡ a
-    → (device : ℕ) × (verdict a.facts (rows_before a) (past_in a) client request (ask_stage pending) ≡ Decision.Accept device at blocks) → Found b.facts (past_in b) at blocks
+    → (device : ℕ) × (verdict (basis_in a) (past_in a) client request (ask_stage pending) ≡ Decision.Accept device at blocks) → Found b.facts (past_in b) at blocks
 found-over a b client request pending at blocks e h =
-    subst (λ (x : HouseLogView). Found x.facts (past_in x) at blocks) (sym e) (ask-found a.facts (rows_before a) (past_in a) client request pending h.0 blocks at h.1)
+    subst (λ (x : HouseLogView). Found x.facts (past_in x) at blocks) (sym e) (ask-found (basis_in a) (past_in a) client request pending h.0 blocks at h.1)

@@ -9,21 +9,21 @@ use Rattle.emulated_boards.specs.declared.condition.Condition.{Condition}
 use Rattle.emulated_boards.specs.declared.image.Image.{Image}
 use Rattle.fw_facts.specs.declared.seen.Mode.{Mode}
 use Rattle.fw_facts.specs.declared.seen.Seen.{Seen}
-use Rattle.history_keeper.specs.declared.change.Change.{Change}
 use Rattle.history_keeper.specs.declared.row.Row.{Row}
-use Rattle.update_log.specs.Core.{Stands}
-use Rattle.update_log.specs.CoreFolds.{AllFaults}
+use Rattle.history_keeper.specs.Signs.{KeeperSigns}
+use Rattle.core_state.specs.Core.{Stands}
+use Rattle.update_log.specs.Pasts.{AllFaults, boots, past_of, time_of}
 use Rattle.update_log.specs.Holding.{held}
 use Rattle.update_log.specs.Legal.{IsLegal}
 use Rattle.update_log.specs.Once.{ShowsFirst}
-use Rattle.update_log.specs.Pasts.{boots, past_of, time_of}
-use Rattle.update_log.specs.Shows.{Campaign, FreshShows, HasRaw, first_of_board}
+use Rattle.update_log.specs.Shows.{FreshShows, HasRaw, first_of_board}
+use Rattle.update_log.specs.Known.{basis_of}
 use Rattle.update_log.specs.declared.event.Event.{Event}
 use Rattle.update_log.specs.declared.facts.Facts.{Facts}
 use Rattle.daemon_core.specs.HouseLog.{IsBlank, IsHouseLog, MadeBy}
 use Rattle.daemon_core.specs.Boards.{PlaceStands}
 use Rattle.daemon_core.specs.House.{IsHouse, IsNewBoard, IsNewHouse, place_of, shown_by}
-use Rattle.daemon_core.specs.Housed.{HouseLogView, Housed, Place, past, past_in, rows_before, rows_taken}
+use Rattle.daemon_core.specs.Housed.{campaign_in, HouseLogView, Housed, Place, past, past_in, rows_before, rows_taken}
 use Rattle.daemon_core.specs.Owed.{owed}
 
 blank-past : (facts : Facts) (first : List Seen) (a : HouseLogView) → IsBlank facts first a → past_in a ≡ []
@@ -33,16 +33,15 @@ blank-before : (facts : Facts) (first : List Seen) (a : HouseLogView) → IsBlan
 blank-before facts first a b = ap (λ (l : Bool). rows_taken l a.opening) b.loaded
 
 -- A blank house log is one.
-pub house_log-blank : (a : HouseLogView) → IsBlank a.facts a.first a → length a.facts.sheets ≤ 256 → length a.first ≡ length a.facts.sheets → Stands a.facts [] a.core → IsHouseLog a
+pub house_log-blank : (a : HouseLogView) → IsBlank a.facts a.first a → length a.facts.sheets ≤ 256 → length a.first ≡ length a.facts.sheets → Stands (basis_of a.facts []) a.core → IsHouseLog a
 house_log-blank a b few firsts s =
     let p : past_in a ≡ [] = blank-past a.facts a.first a b in
-    let c : Campaign = record { facts = a.facts; first = a.first; plans = [] } in
     let o = ap owed p in
     let n = ap boots p in
     let t = ap time_of p in
     record {
-      legal = (c, refl, refl, subst (λ (es : List Event). IsLegal c (rows_before a) es) (sym p) tt);
-      stands = subst (λ (r : List Row). Stands a.facts r a.core) (sym (blank-before a.facts a.first a b)) s;
+      legal = ([], subst (λ (es : List Event). IsLegal (campaign_in a []) es) (sym p) tt);
+      stands = subst (λ (r : List Row). Stands (basis_of a.facts r) a.core) (sym (blank-before a.facts a.first a b)) s;
       makers = subst (λ (l : List Event). MadeBy l a.makers) (sym b.log) (subst (λ (m : List ℕ). MadeBy [] m) (sym b.makers) tt);
       few = few;
       firsts = firsts;
@@ -67,22 +66,22 @@ loader-only : (o : Option ℕ) (raw : ℕ) → Seen.Home (unwrap_or o 0) (if is_
 loader-only (Some r) raw e = cc
 loader-only None raw e = cc
 
-first-shown : (facts : Facts) (first : List Seen) (number : ℕ) (image : Image) → first_of_board first number ≡ view_of (fresh image) → FreshShows facts first [] [] number [] (view_of (fresh image))
+first-shown : (facts : Facts) (first : List Seen) (number : ℕ) (image : Image) → first_of_board first number ≡ view_of (fresh image) → FreshShows (basis_of facts []) first [] number [] (view_of (fresh image))
 first-shown facts first number image e =
     record {
       raw = λ raw mode h. inl (subst (λ (s : Seen). HasRaw s raw) (sym e) (raw-shown (view_of (fresh image)) raw mode h));
       mode = λ raw h. loader-only image.raw raw h;
     }
 
-gone-shown : (facts : Facts) (first : List Seen) (number : ℕ) → FreshShows facts first [] [] number [] Seen.Gone
+gone-shown : (facts : Facts) (first : List Seen) (number : ℕ) → FreshShows (basis_of facts []) first [] number [] Seen.Gone
 gone-shown facts first number = record { raw = λ raw mode h. cc; mode = λ raw h. cc }
 
-boots-shown : (facts : Facts) (first : List Seen) (number : ℕ) (image : Image) → first_of_board first number ≡ view_of (fresh image) → (absent : Bool) → FreshShows facts first [] [] number [] (view_of (booted absent (fresh image)))
+boots-shown : (facts : Facts) (first : List Seen) (number : ℕ) (image : Image) → first_of_board first number ≡ view_of (fresh image) → (absent : Bool) → FreshShows (basis_of facts []) first [] number [] (view_of (booted absent (fresh image)))
 boots-shown facts first number image e true = gone-shown facts first number
 boots-shown facts first number image e false = first-shown facts first number image e
 
 -- A new board stands to the empty past.
-pub place-new : (facts : Facts) (first : List Seen) (number : ℕ) (b : BoardState) → IsNewBoard b → first_of_board first number ≡ shown_by b → PlaceStands facts first [] [] number (place_of b)
+pub place-new : (facts : Facts) (first : List Seen) (number : ℕ) (b : BoardState) → IsNewBoard b → first_of_board first number ≡ shown_by b → PlaceStands (basis_of facts []) first [] number (place_of b)
 place-new facts first number b n e =
     let f : first_of_board first number ≡ view_of (fresh n.image) = e ∙ ap view_of n.condition in
     record {
@@ -97,8 +96,8 @@ place-new facts first number b n e =
               view = λ o z. absurd (omega arith);
               unwritten = λ _. subst (λ (s : Seen). ShowsFirst (shown_by b) s) (sym e) (shows-itself (shown_by b));
             };
-            boots = λ absent. subst (λ (c : Condition). FreshShows facts first [] [] number [] (view_of (booted absent c))) (sym n.condition) (boots-shown facts first number n.image f absent);
-            plugs = λ o. subst (λ (c : Condition). FreshShows facts first [] [] number [] (view_of (plugged c))) (sym n.condition) (first-shown facts first number n.image f);
+            boots = λ absent. subst (λ (c : Condition). FreshShows (basis_of facts []) first [] number [] (view_of (booted absent c))) (sym n.condition) (boots-shown facts first number n.image f absent);
+            plugs = λ o. subst (λ (c : Condition). FreshShows (basis_of facts []) first [] number [] (view_of (plugged c))) (sym n.condition) (first-shown facts first number n.image f);
             staged = λ image e. let bad : None ≡ Some image = sym (ap (λ (c : Condition). c.staged) n.condition) ∙ e in cc;
             faults = omega arith;
           },
@@ -118,9 +117,9 @@ map-get f (x' ∷ xs) zero x h = cc
 map-get f (x' ∷ xs) (suc i) x h = map-get f xs i x h
 
 -- A new house is a house.
-pub house-new : {K : Type 0} (told : K → List Row → Type 0) (doubted : K → Option Change) (facts : Facts) (boards : List BoardState) (pool : PoolCounts) (keeper : K) (h : Housed K) → IsNewHouse facts boards pool keeper h → length boards ≡ length facts.sheets
-    → ((number : ℕ) (b : BoardState) → slice_get boards number ≡ Some b → IsNewBoard b) → doubted keeper ≡ None → pool.capacity ≡ facts.pool → pool.free ≡ pool.capacity → IsHouse told doubted h
-house-new {K} told doubted facts boards pool keeper h n count new no_doubt capacity free =
+pub house-new : {K : Type 0} (signs : KeeperSigns K) (facts : Facts) (boards : List BoardState) (pool : PoolCounts) (keeper : K) (h : Housed K) → IsNewHouse facts boards pool keeper h → length boards ≡ length facts.sheets
+    → ((number : ℕ) (b : BoardState) → slice_get boards number ≡ Some b → IsNewBoard b) → signs.doubt keeper ≡ None → pool.capacity ≡ facts.pool → pool.free ≡ pool.capacity → IsHouse signs h
+house-new {K} signs facts boards pool keeper h n count new no_doubt capacity free =
     let p : past h ≡ [] = blank-past facts (map shown_by boards) h.house_log n.blank in
     let r : rows_before h.house_log ≡ [] = blank-before facts (map shown_by boards) h.house_log n.blank in
     let f : h.house_log.facts ≡ facts = n.blank.facts_are in
@@ -134,13 +133,13 @@ house-new {K} told doubted facts boards pool keeper h n count new no_doubt capac
           let g = get-map place_of boards number place (ap (λ (x : List Place). slice_get x number) (sym n.places) ∙ e) in
           let b : BoardState = g.0 in
           let shown : first_of_board (map shown_by boards) number ≡ shown_by b = ap (λ (o : Option Seen). unwrap_or o Seen.Gone) (map-get shown_by boards number b g.1) in
-          subst (λ (x : Facts). PlaceStands x h.house_log.first (rows_before h.house_log) (past h) number place) (sym f)
-          (subst (λ (x : List Seen). PlaceStands facts x (rows_before h.house_log) (past h) number place) (sym n.blank.first_are)
-          (subst (λ (x : List Row). PlaceStands facts (map shown_by boards) x (past h) number place) (sym r)
-          (subst (λ (x : List Event). PlaceStands facts (map shown_by boards) [] x number place) (sym p)
-          (subst (λ (x : Place). PlaceStands facts (map shown_by boards) [] [] number x) g.2
+          subst (λ (x : Facts). PlaceStands (basis_of x (rows_before h.house_log)) h.house_log.first (past h) number place) (sym f)
+          (subst (λ (x : List Seen). PlaceStands (basis_of facts (rows_before h.house_log)) x (past h) number place) (sym n.blank.first_are)
+          (subst (λ (x : List Row). PlaceStands (basis_of facts x) (map shown_by boards) (past h) number place) (sym r)
+          (subst (λ (x : List Event). PlaceStands (basis_of facts []) (map shown_by boards) x number place) (sym p)
+          (subst (λ (x : Place). PlaceStands (basis_of facts []) (map shown_by boards) [] number x) g.2
           (place-new facts (map shown_by boards) number b (new number b g.1) shown)))));
-      unloaded = λ _. ap doubted n.keeper_is ∙ no_doubt;
+      unloaded = λ _. ap signs.doubt n.keeper_is ∙ no_doubt;
       kept = λ l. let e : true ≡ false = sym l ∙ n.blank.loaded in cc;
       capacity = cap ∙ capacity ∙ sym all;
       free = omega (arith, none, cap, free', all, capacity, free);

@@ -9,6 +9,7 @@ use Rattle.emulated_boards.specs.declared.mark.Mark.{Mark}
 use Rattle.fw_facts.specs.declared.seen.Seen.{Seen}
 use Rattle.history_keeper.specs.declared.change.Change.{Change}
 use Rattle.history_keeper.specs.declared.row.Row.{Row}
+use Rattle.history_keeper.specs.Signs.{KeeperSigns}
 use Rattle.update_log.proofs.CrashOnce.{get-alike}
 use Rattle.update_log.specs.Crashes.{next_boot}
 use Rattle.update_log.specs.declared.event.BoardSeen.{BoardSeen}
@@ -19,7 +20,7 @@ use Rattle.update_log.specs.declared.facts.BootPlan.{BootPlan}
 use Rattle.update_log.specs.declared.facts.Facts.{Facts}
 use Rattle.update_log.specs.declared.live.OpenStep.{OpenStep}
 use Rattle.update_log.specs.Holding.{blocks_out, held, holds, live}
-use Rattle.update_log.specs.Known.{doubt_found, rows, rows_found}
+use Rattle.update_log.specs.Known.{Basis, basis_of, doubt_found, rows, rows_found}
 use Rattle.update_log.specs.Legal.{BoardListed, is_absent, open_marks, open_on}
 use Rattle.update_log.specs.Shows.{IsPrefix, digest_of, marks, told}
 use Rattle.daemon_core.proofs.HouseLogKept.{appended-before, appended-past}
@@ -31,7 +32,7 @@ use Rattle.daemon_core.specs.HouseLog.{Appended, IsHouseLog, IsLegalSo}
 use Rattle.daemon_core.specs.Boards.{BoardIsHome, BoardStands, PlaceStands}
 use Rattle.daemon_core.specs.Booting.{AllCanStart, AllListed, AllStarted, BoardsStarted, CanBeStarted, PlacesStand, opened}
 use Rattle.daemon_core.specs.House.{IsHouse}
-use Rattle.daemon_core.specs.Housed.{HouseLogView, Place, past_in, rows_before}
+use Rattle.daemon_core.specs.Housed.{basis_in, HouseLogView, Place, past_in, rows_before}
 use Rattle.daemon_core.specs.Keeping.{KeepsSo, still_reopened}
 
 pub take-front : {X : Type 0} (n : ℕ) (xs ys : List X) → n ≡ length xs → take n (xs ++ ys) ≡ xs
@@ -46,41 +47,41 @@ pub marks-few : (op : Op) (entry : ℕ) (digest : List ℕ) → length (marks op
 marks-few Op.Prepare entry digest = omega arith
 marks-few _ entry digest = omega arith
 
-open-few : (facts : Facts) (opening : List Row) (past : List Event) (number : ℕ) → length (open_marks facts opening past number) ≤ 2
-open-few facts opening past number = at (open_on facts opening past number)
+open-few : (basis : Basis) (past : List Event) (number : ℕ) → length (open_marks basis past number) ≤ 2
+open-few basis past number = at (open_on basis past number)
   where
-    at : (o : Option OpenStep) → length (unwrap_or (option_map (λ s. marks s.op s.entry (digest_of (rows facts opening past) s.entry)) o) []) ≤ 2
+    at : (o : Option OpenStep) → length (unwrap_or (option_map (λ s. marks s.op s.entry (digest_of (rows basis past) s.entry)) o) []) ≤ 2
     at None = omega arith
-    at (Some s) = marks-few s.op s.entry (digest_of (rows facts opening past) s.entry)
+    at (Some s) = marks-few s.op s.entry (digest_of (rows basis past) s.entry)
 
 -- the board of a place, while no entry is live
-record AtHome (facts : Facts) (first : List Seen) (opening : List Row) (past : List Event) (number : ℕ) (o : Option BoardState) : Type 0 where
+record AtHome (basis : Basis) (first : List Seen) (past : List Event) (number : ℕ) (o : Option BoardState) : Type 0 where
   board : BoardState
   is : o ≡ Some board
   tail : List Mark
-  stands : BoardStands facts first opening past number board tail
+  stands : BoardStands basis first past number board tail
 
-at-home : (facts : Facts) (first : List Seen) (opening : List Row) (past : List Event) (number : ℕ) (o : Option BoardState) → live past ≡ [] → BoardIsHome facts first opening past number o → AtHome facts first opening past number o
-at-home facts first opening past number None l h = let bad : false ≡ true = rw l at h in cc
-at-home facts first opening past number (Some b) l h = record { board = b; is = refl; tail = h.1.0; stands = h.1.1 }
+at-home : (basis : Basis) (first : List Seen) (past : List Event) (number : ℕ) (o : Option BoardState) → live past ≡ [] → BoardIsHome basis first past number o → AtHome basis first past number o
+at-home basis first past number None l h = let bad : false ≡ true = rw l at h in cc
+at-home basis first past number (Some b) l h = record { board = b; is = refl; tail = h.1.0; stands = h.1.1 }
 
-can-start : (facts : Facts) (first : List Seen) (opening : List Row) (past : List Event) (number : ℕ) (place : Place) → live past ≡ [] → PlaceStands facts first opening past number place → CanBeStarted place
-can-start facts first opening past number place l p =
-    let h = at-home facts first opening past number place.board l p.home in
+can-start : (basis : Basis) (first : List Seen) (past : List Event) (number : ℕ) (place : Place) → live past ≡ [] → PlaceStands basis first past number place → CanBeStarted place
+can-start basis first past number place l p =
+    let h = at-home basis first past number place.board l p.home in
     let j = h.stands.fits.journal in
-    let e : length h.board.journal ≡ length (told facts opening past number) + length h.tail = ap length j.told_and_tail ∙ length-append (told facts opening past number) h.tail in
-    let s : length h.tail ≤ length (open_marks facts opening past number) = prefix-shorter h.tail (open_marks facts opening past number) j.tail_is in
-    let f = open-few facts opening past number in
-    let t : place.told ≡ length (told facts opening past number) = p.told in
+    let e : length h.board.journal ≡ length (told basis past number) + length h.tail = ap length j.told_and_tail ∙ length-append (told basis past number) h.tail in
+    let s : length h.tail ≤ length (open_marks basis past number) = prefix-shorter h.tail (open_marks basis past number) j.tail_is in
+    let f = open-few basis past number in
+    let t : place.told ≡ length (told basis past number) = p.told in
     (h.board, record { home = h.is; told = omega (arith, e, t); few = omega (arith, e, t, s, f) })
 
-module _ (a : HouseLogView) (places after : List Place) (plan : BootPlan) (listed : List BoardSeen) (k : IsLegalSo a.facts a.first (rows_before a) (past_in a)) (p : PlacesStand a places) (l : live (past_in a) ≡ []) where
+module _ (a : HouseLogView) (places after : List Place) (plan : BootPlan) (listed : List BoardSeen) (k : IsLegalSo (basis_in a) a.first (past_in a)) (p : PlacesStand a places) (l : live (past_in a) ≡ []) where
   pub all-can_start : AllCanStart places
-  all-can_start number place e = can-start a.facts a.first (rows_before a) (past_in a) number place l (p.each number place e)
+  all-can_start number place e = can-start (basis_in a) a.first (past_in a) number place l (p.each number place e)
 
   -- what is listed of a board, and where it belongs
   module _ (s : AllStarted plan places after listed) where
-    pub all-listed : AllListed a.facts a.first (rows_before a) (past_in a) plan listed
+    pub all-listed : AllListed (basis_in a) a.first (past_in a) plan listed
     all-listed =
         record {
           count = s.count ∙ p.count;
@@ -90,40 +91,40 @@ module _ (a : HouseLogView) (places after : List Place) (plan : BootPlan) (liste
               let w = t.4 in
               let pl = p.each number o.0 o.1 in
               let same : t.1 ≡ seen = (let x : Some t.1 ≡ Some seen = sym t.3 ∙ e in cc) in
-              let h = at-home a.facts a.first (rows_before a) (past_in a) number o.0.board l pl.home in
+              let h = at-home (basis_in a) a.first (past_in a) number o.0.board l pl.home in
               let b_is : h.board ≡ w.0 = (let x : Some h.board ≡ Some w.0 = sym h.is ∙ w.2.was in cc) in
-              subst (λ (x : BoardSeen). BoardListed a.facts a.first (rows_before a) (past_in a) plan number x) same
-              (listed-so a.facts a.first (rows_before a) (past_in a) number k (is_absent plan number) o.0 t.0 w.0 w.1 h.tail t.1
-              (subst (λ (x : BoardState). BoardStands a.facts a.first (rows_before a) (past_in a) number x h.tail) b_is h.stands) pl.told w.2 plan refl);
+              subst (λ (x : BoardSeen). BoardListed (basis_in a) a.first (past_in a) plan number x) same
+              (listed-so (basis_in a) a.first (past_in a) number k (is_absent plan number) o.0 t.0 w.0 w.1 h.tail t.1
+              (subst (λ (x : BoardState). BoardStands (basis_in a) a.first (past_in a) number x h.tail) b_is h.stands) pl.told w.2 plan refl);
         }
 
     pub all-stand : (found : Found) (number : ℕ) (place : Place) → slice_get after number ≡ Some place
-        → PlaceStands a.facts a.first (rows_before a) (next_boot (past_in a) plan found listed ∷ past_in a) number place
+        → PlaceStands (basis_in a) a.first (next_boot (past_in a) plan found listed ∷ past_in a) number place
     all-stand found number place e =
         let o = get-alike after places number place (sym s.places) e in
         let t = s.each number o.0 o.1 in
         let w = t.4 in
         let pl = p.each number o.0 o.1 in
         let same : t.0 ≡ place = (let x : Some t.0 ≡ Some place = sym t.2 ∙ e in cc) in
-        let h = at-home a.facts a.first (rows_before a) (past_in a) number o.0.board l pl.home in
+        let h = at-home (basis_in a) a.first (past_in a) number o.0.board l pl.home in
         let b_is : h.board ≡ w.0 = (let x : Some h.board ≡ Some w.0 = sym h.is ∙ w.2.was in cc) in
-        subst (λ (x : Place). PlaceStands a.facts a.first (rows_before a) (next_boot (past_in a) plan found listed ∷ past_in a) number x) same
-        (place-started a.facts a.first (rows_before a) (past_in a) number k (is_absent plan number) o.0 t.0 w.0 w.1 h.tail t.1
-        (subst (λ (x : BoardState). BoardStands a.facts a.first (rows_before a) (past_in a) number x h.tail) b_is h.stands) pl.told w.2
+        subst (λ (x : Place). PlaceStands (basis_in a) a.first (next_boot (past_in a) plan found listed ∷ past_in a) number x) same
+        (place-started (basis_in a) a.first (past_in a) number k (is_absent plan number) o.0 t.0 w.0 w.1 h.tail t.1
+        (subst (λ (x : BoardState). BoardStands (basis_in a) a.first (past_in a) number x h.tail) b_is h.stands) pl.told w.2
         _ plan.time plan.limit found listed t.3)
 
 -- the boards, over the house log with an event more
 pub stand-after : (client : ℕ) (event : Event) (old new : HouseLogView) (places : List Place) → Appended client event old new → length places ≡ length old.facts.sheets
-    → ((number : ℕ) (place : Place) → slice_get places number ≡ Some place → PlaceStands old.facts old.first (rows_before old) (event ∷ past_in old) number place)
+    → ((number : ℕ) (place : Place) → slice_get places number ≡ Some place → PlaceStands (basis_in old) old.first (event ∷ past_in old) number place)
     → PlacesStand new places
 stand-after client event old new places a n h =
     record {
       count = n ∙ ap (λ (x : Facts). length x.sheets) (sym a.same.facts);
       each = λ number place e.
-          subst (λ (x : Facts). PlaceStands x new.first (rows_before new) (past_in new) number place) (sym a.same.facts)
-          (subst (λ (x : List Seen). PlaceStands old.facts x (rows_before new) (past_in new) number place) (sym a.same.first)
-          (subst (λ (x : List Row). PlaceStands old.facts old.first x (past_in new) number place) (sym (appended-before client event old new a))
-          (subst (λ (x : List Event). PlaceStands old.facts old.first (rows_before old) x number place) (sym (appended-past client event old new a))
+          subst (λ (x : Facts). PlaceStands (basis_of x (rows_before new)) new.first (past_in new) number place) (sym a.same.facts)
+          (subst (λ (x : List Seen). PlaceStands (basis_of old.facts (rows_before new)) x (past_in new) number place) (sym a.same.first)
+          (subst (λ (x : List Row). PlaceStands (basis_of old.facts x) old.first (past_in new) number place) (sym (appended-before client event old new a))
+          (subst (λ (x : List Event). PlaceStands (basis_in old) old.first x number place) (sym (appended-past client event old new a))
           (h number place e))));
     }
 
@@ -137,13 +138,13 @@ stand-over old all n places k l p =
     }
 
 -- the house behind a boot
-pub house-booted : {K : Type 0} (tells : K → List Row → Type 0) (doubts : K → Option Change) (mid new : HouseLogView) (places after : List Place) (pool : PoolCounts) (keeper : K) (plan : BootPlan) (found : Found)
+pub house-booted : {K : Type 0} (signs : KeeperSigns K) (mid new : HouseLogView) (places after : List Place) (pool : PoolCounts) (keeper : K) (plan : BootPlan) (found : Found)
     → IsHouseLog mid → IsHouseLog new → PlacesStand mid places → live (past_in mid) ≡ [] → holds (past_in mid) ≡ [] → BoardsStarted plan found mid new places after
     → pool.capacity ≡ mid.facts.pool → pool.free + held (past_in mid) ≡ mid.facts.pool
-    → (mid.loaded ≡ false → doubts keeper ≡ None)
-    → (mid.loaded ≡ true → KeepsSo (still_reopened found mid.reopened) tells doubts keeper (rows_found found mid.core.doubt mid.core.rows) (doubt_found found mid.core.doubt))
-    → IsHouse tells doubts (record { house_log = new; places = after; pool = pool; keeper = keeper })
-house-booted tells doubts mid new places after pool keeper plan found k kn p l hs b c f u t =
+    → (mid.loaded ≡ false → signs.doubt keeper ≡ None)
+    → (mid.loaded ≡ true → KeepsSo (still_reopened found mid.reopened) signs keeper (rows_found found mid.core.doubt mid.core.rows) (doubt_found found mid.core.doubt))
+    → IsHouse signs (record { house_log = new; places = after; pool = pool; keeper = keeper })
+house-booted signs mid new places after pool keeper plan found k kn p l hs b c f u t =
     let noted : HouseLogView = record new { reopened = mid.reopened } in
     let ka : IsHouseLog noted = house_log-reopened new mid.reopened (λ u. k.unopened (sym b.appended.same.loaded ∙ u)) kn in
     let s = stand-after 0 (next_boot (past_in mid) plan found b.listed) mid noted after b.appended (b.started.places ∙ p.count)
@@ -160,9 +161,9 @@ house-booted tells doubts mid new places after pool keeper plan found k kn p l h
       places = s.each;
       unloaded = λ e. u (sym loaded ∙ e);
       kept = λ e.
-          subst (λ (x : Bool). KeepsSo x tells doubts keeper new.core.rows new.core.doubt) (sym b.reopened)
-          (subst (λ (x : List Row). KeepsSo (still_reopened found mid.reopened) tells doubts keeper x new.core.doubt) (sym r)
-          (subst (λ (x : Option Change). KeepsSo (still_reopened found mid.reopened) tells doubts keeper (rows_found found mid.core.doubt mid.core.rows) x) (sym d) (t (sym loaded ∙ e))));
+          subst (λ (x : Bool). KeepsSo x signs keeper new.core.rows new.core.doubt) (sym b.reopened)
+          (subst (λ (x : List Row). KeepsSo (still_reopened found mid.reopened) signs keeper x new.core.doubt) (sym r)
+          (subst (λ (x : Option Change). KeepsSo (still_reopened found mid.reopened) signs keeper (rows_found found mid.core.doubt mid.core.rows) x) (sym d) (t (sym loaded ∙ e))));
       capacity = c ∙ ap (λ (x : Facts). x.pool) (sym facts);
       free = ap (λ n. pool.free + n) (none_now ∙ sym none) ∙ f ∙ ap (λ (x : Facts). x.pool) (sym facts);
     }

@@ -24,7 +24,7 @@ use Rattle.update_log.proofs.Openings.{bytes-self}
 use Rattle.update_log.proofs.RowsKept.{is_kept, no-tag, not_kept}
 use Rattle.update_log.specs.Boards.{Board, all_boards, board_with, devices, is_device, is_served, plugin_place}
 use Rattle.update_log.specs.Holding.{live}
-use Rattle.update_log.specs.Known.{Target, is_board_of, is_on, known, new_row, row_with_tag, rows, target, target_at, target_of, view_of, views}
+use Rattle.update_log.specs.Known.{Basis, Target, is_board_of, is_on, known, new_row, row_with_tag, rows, target, target_at, target_of, view_of, views}
 use Rattle.update_log.specs.Legal.{is_fetched}
 use Rattle.update_log.specs.Pasts.{time_of}
 use Rattle.update_log.specs.Verdicts.{Case, case_of, is_release, verdict}
@@ -94,15 +94,15 @@ none-on facts all device number (x ∷ xs) b h =
     (λ u. rw (u, rest) refl))
 
 -- The board of a device that isn't claimed is home.
-pub view-home : (facts : Facts) (opening : List Row) (past : List Event) (n : ℕ) (v : DeviceView) → slice_get (views facts opening past) n ≡ Some v → v.claim ≡ None → (number : ℕ) × DeviceHome facts opening past v.sheet.device number
-view-home facts opening past n v e c =
-    let s = board-seen (view_of (live past) (known facts opening past)) (devices facts) n v e in
+pub view-home : (basis : Basis) (past : List Event) (n : ℕ) (v : DeviceView) → slice_get (views basis past) n ≡ Some v → v.claim ≡ None → (number : ℕ) × DeviceHome basis past v.sheet.device number
+view-home basis past n v e c =
+    let s = board-seen (view_of (live past) (known basis past)) (devices basis.facts) n v e in
     let device : s.board.sheet.device ≡ v.sheet.device = ap (λ (x : DeviceView). x.sheet.device) s.view_is in
-    let claim : option_map (λ l. l.entry) (find (is_on (rows facts opening past) s.board.sheet.device) (live past)) ≡ None = ap (λ (x : DeviceView). x.claim) s.view_is ∙ c in
-    let none : find (is_on (rows facts opening past) s.board.sheet.device) (live past) ≡ None = map-none (λ (l : LiveEntry). l.entry) _ claim in
-    let board : board_with facts s.board.sheet.device ≡ Some s.other.number = ap (option_map (λ (b : Board). b.number)) s.found in
-    let out : is_out facts opening past s.other.number ≡ false = none-on facts (rows facts opening past) s.board.sheet.device s.other.number (live past) board none in
-    (s.other.number, record { board_is = ap (board_with facts) (sym device) ∙ board; home = out })
+    let claim : option_map (λ l. l.entry) (find (is_on (rows basis past) s.board.sheet.device) (live past)) ≡ None = ap (λ (x : DeviceView). x.claim) s.view_is ∙ c in
+    let none : find (is_on (rows basis past) s.board.sheet.device) (live past) ≡ None = map-none (λ (l : LiveEntry). l.entry) _ claim in
+    let board : board_with basis.facts s.board.sheet.device ≡ Some s.other.number = ap (option_map (λ (b : Board). b.number)) s.found in
+    let out : is_out basis past s.other.number ≡ false = none-on basis.facts (rows basis past) s.board.sheet.device s.other.number (live past) board none in
+    (s.other.number, record { board_is = ap (board_with basis.facts) (sym device) ∙ board; home = out })
 
 -- Each device's board is served.
 pub device-served : (facts : Facts) (device : List ℕ) (number : ℕ) → board_with facts device ≡ Some number → (place : ℕ) × (plugin_at facts number ≡ Some place)
@@ -139,34 +139,34 @@ release-there catalogue a b release h k =
     }
 
 -- What there is where a claim is accepted.
-pub record Claimable (facts : Facts) (opening : List Row) (past : List Event) (client : ℕ) (request : Request) (release : ReleaseRef) (t : Target) : Type 0 where
-  pub found : target facts (views facts opening past) request ≡ Some t
+pub record Claimable (basis : Basis) (past : List Event) (client : ℕ) (request : Request) (release : ReleaseRef) (t : Target) : Type 0 where
+  pub found : target basis.facts (views basis past) request ≡ Some t
   pub that : is_release release t.chosen.at ≡ true
   pub unclaimed : t.view.claim ≡ None
-  pub few : length (rows facts opening past) < 65536
-  pub suits : Suits (Change.Add (new_row (length (rows facts opening past) + 1) (time_of past) client request RowState.Begun t)) (rows facts opening past)
+  pub few : length (rows basis past) < 65536
+  pub suits : Suits (Change.Add (new_row (length (rows basis past) + 1) (time_of past) client request RowState.Begun t)) (rows basis past)
 
-pub claimable : (facts : Facts) (opening : List Row) (past : List Event) (client : ℕ) (request : Request) (release : ReleaseRef) → IsAccept (verdict facts opening past client request (Stage.Claim release)) → (t : Target) × Claimable facts opening past client request release t
-claimable facts opening past client request release a =
-    let c : Case = case_of facts opening past client request (Stage.Claim release) in
+pub claimable : (basis : Basis) (past : List Event) (client : ℕ) (request : Request) (release : ReleaseRef) → IsAccept (verdict basis past client request (Stage.Claim release)) → (t : Target) × Claimable basis past client request release t
+claimable basis past client request release a =
+    let c : Case = case_of basis past client request (Stage.Claim release) in
     let h = accepts-target c a.0 a.2 a.1 a.3 in
     let t : Target = h.0 in
-    let k : row_with_tag (rows facts opening past) request.tag ≡ None = not_kept c (ap is_kept a.3) in (
+    let k : row_with_tag (rows basis past) request.tag ≡ None = not_kept c (ap is_kept a.3) in (
       t,
       record {
         found = h.1.found;
         that = (and_parts (is_release release t.chosen.at) _ h.1.that).0;
         unclaimed = map-none (λ entry. Refusal.Busy entry) t.view.claim h.1.none.is_busy;
-        few = fits-rows (length (rows facts opening past)) h.1.none.is_rows_full;
-        suits = (refl, new-tag (rows facts opening past) (new_row (length (rows facts opening past) + 1) (time_of past) client request RowState.Begun t) (no-tag (rows facts opening past) request.tag k));
+        few = fits-rows (length (rows basis past)) h.1.none.is_rows_full;
+        suits = (refl, new-tag (rows basis past) (new_row (length (rows basis past) + 1) (time_of past) client request RowState.Begun t) (no-tag (rows basis past) request.tag k));
       },
     )
 
 -- A whole payload is that of the release that was found.
-pub whole-fetched : (facts : Facts) (opening : List Row) (past : List Event) (client : ℕ) (request : Request) (release : ReleaseRef) (t : Target) (payload : SealedBytes) → Claimable facts opening past client request release t → IsPayloadOf facts release payload → is_fetched (whole_note payload) (target facts (views facts opening past) request) ≡ true
-whole-fetched facts opening past client request release t payload k p =
-    let there : IsReleaseAt facts.catalogue release t.chosen.release = release-there facts.catalogue release t.chosen.at t.chosen.release k.that (target-placed facts (views facts opening past) request t k.found) in
-    let same : p.release ≡ t.chosen.release = release-same facts.catalogue release p.release t.chosen.release p.there there in
+pub whole-fetched : (basis : Basis) (past : List Event) (client : ℕ) (request : Request) (release : ReleaseRef) (t : Target) (payload : SealedBytes) → Claimable basis past client request release t → IsPayloadOf basis.facts release payload → is_fetched (whole_note payload) (target basis.facts (views basis past) request) ≡ true
+whole-fetched basis past client request release t payload k p =
+    let there : IsReleaseAt basis.facts.catalogue release t.chosen.release = release-there basis.facts.catalogue release t.chosen.at t.chosen.release k.that (target-placed basis.facts (views basis past) request t k.found) in
+    let same : p.release ≡ t.chosen.release = release-same basis.facts.catalogue release p.release t.chosen.release p.there there in
     let digest : bytes_eq payload.digest t.chosen.release.digest ≡ true = ap (λ (d : List ℕ). bytes_eq d t.chosen.release.digest) (p.digest_is ∙ ap (λ (r : Release). r.digest) same) ∙ bytes-self t.chosen.release.digest in
     let size : (length payload.bytes == t.chosen.release.size) ≡ true = eq-eqb (length payload.bytes) t.chosen.release.size (p.size_is ∙ ap (λ (r : Release). r.size) same) in
     rw (k.found, digest, size) refl

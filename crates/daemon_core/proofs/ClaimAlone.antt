@@ -118,25 +118,25 @@ begun-waits d all entry r f s e =
     self (x ∷ xs) = rw (eqb-self x) (self xs)
 
 -- So two live entries on one board are one.
-pub alone-on : (c : Campaign) (opening : List Row) (past : List Event) (number a b : ℕ) → IsHistory opening → IsLegal c opening past → is_live (live past) a ≡ true → is_live (live past) b ≡ true
-    → is_board_of c.facts (rows c.facts opening past) a number ≡ true → is_board_of c.facts (rows c.facts opening past) b number ≡ true → a ≢ b → ⊥
-alone-on c opening past number a b v l la lb ha hb n =
-    let k = wait-kept c opening past v l in
-    let x = row-on c.facts (rows c.facts opening past) a number ha in
-    let y = row-on c.facts (rows c.facts opening past) b number hb in
-    let same : y.row.device ≡ x.row.device = same-device c.facts y.row.device x.row.device number y.board_is x.board_is in
-    let sa : state_of (rows c.facts opening past) a ≡ Some RowState.Begun = begun a la in
-    let sb : state_of (rows c.facts opening past) b ≡ Some RowState.Begun = begun b lb in
-    let wa : waits_on x.row.device x.row ≡ true = begun-waits x.row.device (rows c.facts opening past) a x.row x.row_is sa refl in
-    let wb : waits_on x.row.device y.row ≡ true = begun-waits x.row.device (rows c.facts opening past) b y.row y.row_is sb same in
-    let two : 2 ≤ how_many (waits_on x.row.device) (rows c.facts opening past) = two-wait x.row.device (rows c.facts opening past) a b x.row y.row x.row_is y.row_is wa wb n in
-    let one : how_many (waits_on x.row.device) (rows c.facts opening past) ≤ 1 = k.once x.row.device in
+pub alone-on : (c : Campaign) (past : List Event) (number a b : ℕ) → IsHistory c.basis.opening → IsLegal c past → is_live (live past) a ≡ true → is_live (live past) b ≡ true
+    → is_board_of c.basis.facts (rows c.basis past) a number ≡ true → is_board_of c.basis.facts (rows c.basis past) b number ≡ true → a ≢ b → ⊥
+alone-on c past number a b v l la lb ha hb n =
+    let k = wait-kept c past v l in
+    let x = row-on c.basis.facts (rows c.basis past) a number ha in
+    let y = row-on c.basis.facts (rows c.basis past) b number hb in
+    let same : y.row.device ≡ x.row.device = same-device c.basis.facts y.row.device x.row.device number y.board_is x.board_is in
+    let sa : state_of (rows c.basis past) a ≡ Some RowState.Begun = begun a la in
+    let sb : state_of (rows c.basis past) b ≡ Some RowState.Begun = begun b lb in
+    let wa : waits_on x.row.device x.row ≡ true = begun-waits x.row.device (rows c.basis past) a x.row x.row_is sa refl in
+    let wb : waits_on x.row.device y.row ≡ true = begun-waits x.row.device (rows c.basis past) b y.row y.row_is sb same in
+    let two : 2 ≤ how_many (waits_on x.row.device) (rows c.basis past) = two-wait x.row.device (rows c.basis past) a b x.row y.row x.row_is y.row_is wa wb n in
+    let one : how_many (waits_on x.row.device) (rows c.basis past) ≤ 1 = k.once x.row.device in
     absurd (omega arith)
   where
-    begun : (e : ℕ) → is_live (live past) e ≡ true → state_of (rows c.facts opening past) e ≡ Some RowState.Begun
+    begun : (e : ℕ) → is_live (live past) e ≡ true → state_of (rows c.basis past) e ≡ Some RowState.Begun
     begun e h =
-        let k = wait-kept c opening past v l in
+        let k = wait-kept c past v l in
         let f = found-live (live past) e h in
         let same : f.0.entry ≡ e = eqb-true f.0.entry e (find-passes (λ x. x.entry == e) (live past) f.0 f.1) in
-        let s : state_of (rows c.facts opening past) f.0.entry ≡ Some RowState.Begun = All-find (λ (m : LiveEntry). state_of (rows c.facts opening past) m.entry ≡ Some RowState.Begun) (λ x. x.entry == e) (live past) f.0 k.begun f.1 in
-        ap (state_of (rows c.facts opening past)) (sym same) ∙ s
+        let s : state_of (rows c.basis past) f.0.entry ≡ Some RowState.Begun = All-find (λ (m : LiveEntry). state_of (rows c.basis past) m.entry ≡ Some RowState.Begun) (λ x. x.entry == e) (live past) f.0 k.begun f.1 in
+        ap (state_of (rows c.basis past)) (sym same) ∙ s

@@ -1,10 +1,10 @@
 -- What a claim is answered.
-use Rattle.std.proofs.Common.{◌≡◌, ℕ, ◌<◌, ◌≤◌, ◌+◌, true, false, List, [], length, ap, sym, ◌∙◌, subst, inl, inr}
+use Rattle.std.proofs.Common.{◌≡◌, ℕ, ◌<◌, ◌≤◌, ◌+◌, true, false, [], length, ap, sym, ◌∙◌, subst, inl, inr}
 use Rattle.std.specs.Prelude.{Option, Some, None, IfSome, unwrap_or, Result, Ok, Err}
 use Rattle.block_pool.specs.Views.{PoolCounts, SealedBytes}
 use Rattle.emulated_boards.specs.Boards.{BoardState}
-use Rattle.history_keeper.specs.declared.change.Change.{Change}
 use Rattle.history_keeper.specs.declared.row.Row.{Row}
+use Rattle.history_keeper.specs.Signs.{KeeperSigns}
 use Rattle.update_log.specs.Holding.{hold}
 use Rattle.update_log.specs.Pasts.{boots, off}
 use Rattle.update_log.specs.Steps.{trace}
@@ -21,10 +21,10 @@ use Rattle.daemon_core.specs.Claims.{ClaimGave, IsToStore, MayClaim, RoomierBoar
 use Rattle.daemon_core.specs.Fetches.{IsPayloadOf, block_count}
 use Rattle.daemon_core.specs.Holds.{held_by}
 use Rattle.daemon_core.specs.House.{IsHouse}
-use Rattle.daemon_core.specs.Housed.{HouseLogView, Housed, past, past_in, rows_before}
+use Rattle.daemon_core.specs.Housed.{basis_in, HouseLogView, Housed, past, past_in}
 use Rattle.daemon_core.specs.Keeping.{keeper_faults}
 use Rattle.daemon_core.specs.Returns.{place_at}
-use Rattle.daemon_core.specs.Turns.{KeeperFared, Signs, Turned}
+use Rattle.daemon_core.specs.Turns.{KeeperFared, Turned}
 use Rattle.daemon_core.proofs.Fared.{fared-both, fared-same}
 use Rattle.daemon_core.proofs.Answered.{roomier-same, unchanged-appended, unchanged-on}
 use Rattle.daemon_core.proofs.ClaimRoom.{board-itself, board-on, places-same, room-at, room-on, room-out}
@@ -61,20 +61,20 @@ gave-after client ticket fetched (Ok (Claimed.Kept entry state)) old mid new r p
 gave-after client ticket fetched (Ok (Claimed.Refused refusal)) old mid new r p g = (g.0 ∙ ap (λ (x : PoolCounts). x.free + block_count fetched) p, room-on old.places mid.places new.places r g.1)
 gave-after client ticket fetched (Err stopped) old mid new r p g = (g.0 ∙ p, room-on old.places mid.places new.places r g.1, g.2, g.3)
 
-pub faults-after : {K : Type 0} (signs : Signs K) (old mid new : Housed K) → keeper_faults (past mid) ≡ keeper_faults (past old) → mid.keeper ≡ old.keeper → signs.faults mid.keeper ≤ signs.faults new.keeper → KeeperFared signs mid new → KeeperFared signs old new
+pub faults-after : {K : Type 0} (signs : KeeperSigns K) (old mid new : Housed K) → keeper_faults (past mid) ≡ keeper_faults (past old) → mid.keeper ≡ old.keeper → signs.faults mid.keeper ≤ signs.faults new.keeper → KeeperFared signs mid new → KeeperFared signs old new
 faults-after signs old mid new e k c h = fared-both signs old mid new (fared-same signs old mid e k) h c
 
 -- What became of a claim that took its entry.
-pub gave-taken : {K : Type 0} (told : K → List Row → Type 0) (doubted : K → Option Change) (client : ℕ) (ticket : Ticket) (payload : SealedBytes) (row : Row) (number : ℕ) (taken : Taken) (old new : Housed K) → IsHouse told doubted old → IsHouseLog old.house_log → MayClaim old.house_log client ticket payload.count → IsPayloadOf old.house_log.facts ticket.release payload → IsToStore old.house_log client ticket row number → number < length old.places
+pub gave-taken : {K : Type 0} (signs : KeeperSigns K) (client : ℕ) (ticket : Ticket) (payload : SealedBytes) (row : Row) (number : ℕ) (taken : Taken) (old new : Housed K) → IsHouse signs old → IsHouseLog old.house_log → MayClaim old.house_log client ticket payload.count → IsPayloadOf old.house_log.facts ticket.release payload → IsToStore old.house_log client ticket row number → number < length old.places
     → IfSome (place_at old.places number).board (λ b. 8 ≤ b.room) → Appended client (takes_event client ticket payload row) old.house_log new.house_log → new.pool ≡ old.pool → new.places ≡ places_without old.places number → (place_at old.places number).board ≡ Some taken.board → taken.entry ≡ row.entry → taken.payload ≡ payload
-    → taken.plugin ≡ place_given (unwrap_or (plugin_at new.house_log.facts number) 0) → trace new.house_log.facts (rows_before new.house_log) row.entry (past new) ≡ Some taken.trace
+    → taken.plugin ≡ place_given (unwrap_or (plugin_at new.house_log.facts number) 0) → trace (basis_in new.house_log) row.entry (past new) ≡ Some taken.trace
     → ClaimGave client ticket (Fetched.Whole payload) (Ok (Claimed.Taken taken)) old new
-gave-taken told doubted client ticket payload row number taken old new h k m p s within marks a pool places board entry same plugin traced =
-    let b = claim-board told doubted client payload.count ticket row number old h k m s within in
+gave-taken signs client ticket payload row number taken old new h k m p s within marks a pool places board entry same plugin traced =
+    let b = claim-board signs client payload.count ticket row number old h k m s within in
     let e : Some b.0 ≡ Some taken.board = sym b.1 ∙ board in
     let is : b.0 ≡ taken.board = cc in
     let room : 8 ≤ taken.board.room = subst (λ (o : Option BoardState). IfSome o (λ x. 8 ≤ x.room)) board marks in (
       ap Fetched.Whole (sym same),
       pool,
-      (number, claim-taken old.house_log new.house_log client ticket payload row number taken k m p s a (subst (λ (x : BoardState). BoardStands old.house_log.facts old.house_log.first (rows_before old.house_log) (past old) number x []) is b.2) room entry same plugin traced, places-same (places_without old.places number) new.places places, subst (λ (o : Option BoardState). RoomierBoard o (Some taken.board)) (sym board) (board-itself (Some taken.board))),
+      (number, claim-taken old.house_log new.house_log client ticket payload row number taken k m p s a (subst (λ (x : BoardState). BoardStands (basis_in old.house_log) old.house_log.first (past old) number x []) is b.2) room entry same plugin traced, places-same (places_without old.places number) new.places places, subst (λ (o : Option BoardState). RoomierBoard o (Some taken.board)) (sym board) (board-itself (Some taken.board))),
     )

@@ -1,13 +1,14 @@
 -- The exits of a claim, over what each of its steps ensures.
 use Rattle.std.proofs.Common.{◌≡◌, ℕ, ◌<◌, ◌≤◌, ◌+◌, false, List, ◌∷◌, length, refl, ap, sym, ◌∙◌, subst, arith, inl, inr}
-use Rattle.std.specs.Prelude.{Option, Some, None, IsSome, is_some, unwrap_or, Result, Ok, Err}
+use Rattle.std.specs.Prelude.{Some, None, IsSome, is_some, unwrap_or, Result, Ok, Err}
 use Rattle.history_keeper.specs.Keepers.{StillTold}
 use Rattle.block_pool.specs.Views.{PoolCounts, SealedBytes}
 use Rattle.history_keeper.specs.Changes.{IsTimely, Suits, changed}
+use Rattle.history_keeper.specs.Signs.{KeeperSigns}
 use Rattle.history_keeper.specs.declared.change.Change.{Change}
 use Rattle.history_keeper.specs.declared.row.Row.{Row}
 use Rattle.update_log.specs.Boards.{board_with}
-use Rattle.update_log.specs.CoreSteps.{is_taken}
+use Rattle.core_state.specs.CoreSteps.{is_taken}
 use Rattle.update_log.specs.Holding.{live_entry}
 use Rattle.update_log.specs.declared.answer.ClaimAnswer.{ClaimAnswer}
 use Rattle.update_log.specs.Verdicts.{case_of}
@@ -26,9 +27,9 @@ use Rattle.daemon_core.specs.HouseLog.{Appended, Entered, IsHouseLog, Runs}
 use Rattle.daemon_core.specs.Claims.{IsToStore, MayAnswer, MayClaim, claim_event, claim_verdict, places_without}
 use Rattle.daemon_core.specs.Fetches.{IsPayloadOf, is_payload, note_of, whole_note}
 use Rattle.daemon_core.specs.House.{IsHouse}
-use Rattle.daemon_core.specs.Housed.{HouseLogView, Housed, Place, past, past_in, rows_before}
+use Rattle.daemon_core.specs.Housed.{basis_in, HouseLogView, Housed, Place, past, past_in}
 use Rattle.daemon_core.specs.Keeping.{HasRows, keeper_faults}
-use Rattle.daemon_core.specs.Turns.{KeeperFared, Signs, ToldBefore, Turned}
+use Rattle.daemon_core.specs.Turns.{KeeperFared, ToldBefore, Turned}
 use Rattle.daemon_core.proofs.Fared.{counted-more, fared-quiet, fared-same}
 use Rattle.daemon_core.proofs.Answered.{same-unchanged}
 use Rattle.daemon_core.specs.PutOff.{IsAccept}
@@ -59,18 +60,18 @@ end-ready a b client blocks ticket note note' answer event same k m w e n =
     subst (λ (x : Event). IsReady a x) (end-event client ticket note note' answer event e n)
     (claim-ready a client blocks ticket note answer k (may-over a b client blocks ticket same m) (subst (λ (x : HouseLogView). MayAnswer x client ticket note answer) (sym same) w))
 
-pub end-fits : {K : Type 0} (told : K → List Row → Type 0) (doubted : K → Option Change) (client blocks count : ℕ) (ticket : Ticket) (h : Housed K) (b : HouseLogView) → h.house_log ≡ b → IsHouse told doubted h → IsHouseLog h.house_log → MayClaim b client ticket blocks → count ≡ blocks → h.pool.free + count ≤ h.pool.capacity
-end-fits told doubted client blocks count ticket h b same w k m e =
-    let f = claim-fits told doubted client blocks ticket h w k (may-over h.house_log b client blocks ticket same m) in omega (arith, f, e)
+pub end-fits : {K : Type 0} (signs : KeeperSigns K) (client blocks count : ℕ) (ticket : Ticket) (h : Housed K) (b : HouseLogView) → h.house_log ≡ b → IsHouse signs h → IsHouseLog h.house_log → MayClaim b client ticket blocks → count ≡ blocks → h.pool.free + count ≤ h.pool.capacity
+end-fits signs client blocks count ticket h b same w k m e =
+    let f = claim-fits signs client blocks ticket h w k (may-over h.house_log b client blocks ticket same m) in omega (arith, f, e)
 
-pub end-house : {K : Type 0} (told : K → List Row → Type 0) (doubted : K → Option Change) (client blocks : ℕ) (ticket : Ticket) (note note' : FetchNote) (answer : ClaimAnswer) (event : Event) (h : Housed K) (b new : HouseLogView) (pool : PoolCounts) → h.house_log ≡ b → IsHouse told doubted h → IsHouseLog h.house_log → IsHouseLog new → MayClaim b client ticket blocks → MayAnswer b client ticket note answer → is_taken answer ≡ false
-    → event ≡ claims client ticket note' answer → note' ≡ note → Appended client event h.house_log new → pool.capacity ≡ h.pool.capacity → pool.free ≡ h.pool.free + blocks → IsHouse told doubted (record { house_log = new; places = h.places; pool = pool; keeper = h.keeper })
-end-house told doubted client blocks ticket note note' answer event h b new pool same w k k' m v n e f a cap free =
+pub end-house : {K : Type 0} (signs : KeeperSigns K) (client blocks : ℕ) (ticket : Ticket) (note note' : FetchNote) (answer : ClaimAnswer) (event : Event) (h : Housed K) (b new : HouseLogView) (pool : PoolCounts) → h.house_log ≡ b → IsHouse signs h → IsHouseLog h.house_log → IsHouseLog new → MayClaim b client ticket blocks → MayAnswer b client ticket note answer → is_taken answer ≡ false
+    → event ≡ claims client ticket note' answer → note' ≡ note → Appended client event h.house_log new → pool.capacity ≡ h.pool.capacity → pool.free ≡ h.pool.free + blocks → IsHouse signs (record { house_log = new; places = h.places; pool = pool; keeper = h.keeper })
+end-house signs client blocks ticket note note' answer event h b new pool same w k k' m v n e f a cap free =
     let m' = may-over h.house_log b client blocks ticket same m in
-    house-unclaimed told doubted client blocks ticket note answer h new pool h.keeper w k k'
+    house-unclaimed signs client blocks ticket note answer h new pool h.keeper w k k'
     (subst (λ (x : Event). Appended client x h.house_log new) (sym (end-event client ticket note note' answer event e f)) a)
     m' (subst (λ (x : HouseLogView). MayAnswer x client ticket note answer) (sym same) v) (not-taken answer n)
-    (claim-keeps told doubted client ticket note answer h w k m'.loaded n) cap free
+    (claim-keeps signs client ticket note answer h w k m'.loaded n) cap free
 
 -- ---- a claim whose row is to be stored
 
@@ -85,12 +86,12 @@ storing a b client ticket payload row number e m p s =
     subst (λ (x : HouseLogView). Storing x client ticket payload row number) (sym e) (record { may = m; whole = p; store = s })
 
 -- The keeper has the rows of the log, without a doubt.
-pub store-plain : {K : Type 0} (told : K → List Row → Type 0) (doubted : K → Option Change) (client : ℕ) (ticket : Ticket) (payload : SealedBytes) (row : Row) (number : ℕ) (h : Housed K) → IsHouse told doubted h → IsHouseLog h.house_log → Storing h.house_log client ticket payload row number → HasRows told doubted h.keeper h.house_log.core.rows None
-store-plain told doubted client ticket payload row number h w k s = house-plain told doubted h h.house_log refl w k s.may.loaded s.may.runs.on
+pub store-plain : {K : Type 0} (signs : KeeperSigns K) (client : ℕ) (ticket : Ticket) (payload : SealedBytes) (row : Row) (number : ℕ) (h : Housed K) → IsHouse signs h → IsHouseLog h.house_log → Storing h.house_log client ticket payload row number → HasRows signs h.keeper h.house_log.core.rows None
+store-plain signs client ticket payload row number h w k s = house-plain signs h h.house_log refl w k s.may.loaded s.may.runs.on
 
-pub store-suits : {K : Type 0} (told : K → List Row → Type 0) (doubted : K → Option Change) (client : ℕ) (ticket : Ticket) (payload : SealedBytes) (row : Row) (number : ℕ) (h : Housed K) → IsHouse told doubted h → IsHouseLog h.house_log → Storing h.house_log client ticket payload row number → (all : List Row) → told h.keeper all → Suits (Change.Add row) all
-store-suits told doubted client ticket payload row number h w k s =
-    suits-told (told h.keeper) h.house_log.core.rows (Change.Add row) (store-plain told doubted client ticket payload row number h w k s).rows_are s.store.suits
+pub store-suits : {K : Type 0} (signs : KeeperSigns K) (client : ℕ) (ticket : Ticket) (payload : SealedBytes) (row : Row) (number : ℕ) (h : Housed K) → IsHouse signs h → IsHouseLog h.house_log → Storing h.house_log client ticket payload row number → (all : List Row) → signs.tells h.keeper all → Suits (Change.Add row) all
+store-suits signs client ticket payload row number h w k s =
+    suits-told (signs.tells h.keeper) h.house_log.core.rows (Change.Add row) (store-plain signs client ticket payload row number h w k s).rows_are s.store.suits
 
 -- The event that takes the entry, as it is made.
 pub made-event : (client entry : ℕ) (ticket : Ticket) (payload : SealedBytes) (row : Row) (note : FetchNote) (event : Event) → event ≡ claims client ticket note (ClaimAnswer.Entry entry) → note ≡ whole_note payload → entry ≡ row.entry → takes_event client ticket payload row ≡ event
@@ -115,23 +116,23 @@ fault-ready a client ticket payload row number event k s e =
     subst (λ (x : Event). IsReady a x) e (claim-ready a client payload.count ticket (whole_note payload) (ClaimAnswer.Refused Refusal.KeeperFault) k s.may (may-fault a client ticket payload row number s))
 
 -- The house, where the row was stored.
-pub house-took : {K : Type 0} (told : K → List Row → Type 0) (doubted : K → Option Change) (client : ℕ) (ticket : Ticket) (payload : SealedBytes) (row : Row) (number : ℕ) (event : Event) (h : Housed K) (new : HouseLogView) (keeper : K) (places : List Place) → IsHouse told doubted h → IsHouseLog h.house_log → IsHouseLog new → Storing h.house_log client ticket payload row number
-    → takes_event client ticket payload row ≡ event → Appended client event h.house_log new → HasRows told doubted keeper (changed (Change.Add row) h.house_log.core.rows) None → places ≡ places_without h.places number → IsHouse told doubted (record { house_log = new; places = places; pool = h.pool; keeper = keeper })
-house-took told doubted client ticket payload row number event h new keeper places w k k' s e a made p =
-    subst (λ (ps : List Place). IsHouse told doubted (record { house_log = new; places = ps; pool = h.pool; keeper = keeper })) (sym p)
-    (house-claimed told doubted client payload.count ticket (whole_note payload) row.entry number h new keeper w k k'
+pub house-took : {K : Type 0} (signs : KeeperSigns K) (client : ℕ) (ticket : Ticket) (payload : SealedBytes) (row : Row) (number : ℕ) (event : Event) (h : Housed K) (new : HouseLogView) (keeper : K) (places : List Place) → IsHouse signs h → IsHouseLog h.house_log → IsHouseLog new → Storing h.house_log client ticket payload row number
+    → takes_event client ticket payload row ≡ event → Appended client event h.house_log new → HasRows signs keeper (changed (Change.Add row) h.house_log.core.rows) None → places ≡ places_without h.places number → IsHouse signs (record { house_log = new; places = places; pool = h.pool; keeper = keeper })
+house-took signs client ticket payload row number event h new keeper places w k k' s e a made p =
+    subst (λ (ps : List Place). IsHouse signs (record { house_log = new; places = ps; pool = h.pool; keeper = keeper })) (sym p)
+    (house-claimed signs client payload.count ticket (whole_note payload) row.entry number h new keeper w k k'
     (subst (λ (x : Event). Appended client x h.house_log new) (sym e) a) s.may (may-take h.house_log client ticket payload row number k s)
-    (claim-made told doubted h.house_log client ticket (whole_note payload) row.entry row keeper k s.may.runs.on s.store.added made)
-    (claim-takes_entry h.house_log client ticket payload row number k s.store) (store-within told doubted client ticket row number h w s.store)
+    (claim-made signs h.house_log client ticket (whole_note payload) row.entry row keeper k s.may.runs.on s.store.added made)
+    (claim-takes_entry h.house_log client ticket payload row number k s.store) (store-within signs client ticket row number h w s.store)
     (claim-same_held h.house_log client ticket payload row k s.may s.whole))
 
 -- And where that failed.
-pub house-failed : {K : Type 0} (told : K → List Row → Type 0) (doubted : K → Option Change) (client : ℕ) (ticket : Ticket) (payload : SealedBytes) (row : Row) (number : ℕ) (event : Event) (h : Housed K) (new : HouseLogView) (keeper : K) (pool : PoolCounts) → IsHouse told doubted h → IsHouseLog h.house_log → IsHouseLog new → Storing h.house_log client ticket payload row number
-    → claims client ticket (whole_note payload) (ClaimAnswer.Refused Refusal.KeeperFault) ≡ event → Appended client event h.house_log new → HasRows told doubted keeper h.house_log.core.rows (Some (Change.Add row)) → pool.capacity ≡ h.pool.capacity → pool.free ≡ h.pool.free + payload.count → IsHouse told doubted (record { house_log = new; places = h.places; pool = pool; keeper = keeper })
-house-failed told doubted client ticket payload row number event h new keeper pool w k k' s e a kept cap free =
-    house-unclaimed told doubted client payload.count ticket (whole_note payload) (ClaimAnswer.Refused Refusal.KeeperFault) h new pool keeper w k k'
+pub house-failed : {K : Type 0} (signs : KeeperSigns K) (client : ℕ) (ticket : Ticket) (payload : SealedBytes) (row : Row) (number : ℕ) (event : Event) (h : Housed K) (new : HouseLogView) (keeper : K) (pool : PoolCounts) → IsHouse signs h → IsHouseLog h.house_log → IsHouseLog new → Storing h.house_log client ticket payload row number
+    → claims client ticket (whole_note payload) (ClaimAnswer.Refused Refusal.KeeperFault) ≡ event → Appended client event h.house_log new → HasRows signs keeper h.house_log.core.rows (Some (Change.Add row)) → pool.capacity ≡ h.pool.capacity → pool.free ≡ h.pool.free + payload.count → IsHouse signs (record { house_log = new; places = h.places; pool = pool; keeper = keeper })
+house-failed signs client ticket payload row number event h new keeper pool w k k' s e a kept cap free =
+    house-unclaimed signs client payload.count ticket (whole_note payload) (ClaimAnswer.Refused Refusal.KeeperFault) h new pool keeper w k k'
     (subst (λ (x : Event). Appended client x h.house_log new) (sym e) a) s.may (may-fault h.house_log client ticket payload row number s) refl
-    (so-has h.house_log.reopened told doubted keeper _ _ (claim-doubted told doubted h.house_log client ticket (whole_note payload) row keeper k s.store.added kept)) cap free
+    (so-has h.house_log.reopened signs keeper _ _ (claim-doubted signs h.house_log client ticket (whole_note payload) row keeper k s.store.added kept)) cap free
 
 -- The entry is live then.
 pub took-live : (a new : HouseLogView) (client entry : ℕ) (ticket : Ticket) (payload : SealedBytes) (row : Row) (number : ℕ) (event : Event) → IsHouseLog a → Storing a client ticket payload row number → takes_event client ticket payload row ≡ event → Appended client event a new → entry ≡ row.entry → IsSome (live_entry (past_in new) entry)
@@ -167,11 +168,11 @@ turn-failed a b new client ticket payload row number event same s e p =
 
 -- ---- faults of the keeper
 
-pub faults-took : {K : Type 0} (signs : Signs K) (client : ℕ) (ticket : Ticket) (payload : SealedBytes) (row : Row) (event : Event) (old new : Housed K) → takes_event client ticket payload row ≡ event → Appended client event old.house_log new.house_log → signs.faults new.keeper ≡ signs.faults old.keeper → ToldBefore signs.tells old.keeper new.keeper → KeeperFared signs old new
+pub faults-took : {K : Type 0} (signs : KeeperSigns K) (client : ℕ) (ticket : Ticket) (payload : SealedBytes) (row : Row) (event : Event) (old new : Housed K) → takes_event client ticket payload row ≡ event → Appended client event old.house_log new.house_log → signs.faults new.keeper ≡ signs.faults old.keeper → ToldBefore signs.tells old.keeper new.keeper → KeeperFared signs old new
 faults-took signs client ticket payload row event old new e p h t =
     fared-quiet signs old new (quiet-faults client event old.house_log new.house_log p (ap meets_fault (sym e))) h t
 
-pub faults-failed : {K : Type 0} (signs : Signs K) (client : ℕ) (ticket : Ticket) (payload : SealedBytes) (event : Event) (old new : Housed K) → claims client ticket (whole_note payload) (ClaimAnswer.Refused Refusal.KeeperFault) ≡ event → Appended client event old.house_log new.house_log → Rose (signs.faults old.keeper) (signs.faults new.keeper) → ToldBefore signs.tells old.keeper new.keeper → KeeperFared signs old new
+pub faults-failed : {K : Type 0} (signs : KeeperSigns K) (client : ℕ) (ticket : Ticket) (payload : SealedBytes) (event : Event) (old new : Housed K) → claims client ticket (whole_note payload) (ClaimAnswer.Refused Refusal.KeeperFault) ≡ event → Appended client event old.house_log new.house_log → Rose (signs.faults old.keeper) (signs.faults new.keeper) → ToldBefore signs.tells old.keeper new.keeper → KeeperFared signs old new
 faults-failed signs client ticket payload event old new e p h t =
     let q : keeper_faults (past new) ≡ keeper_faults (claims client ticket (whole_note payload) (ClaimAnswer.Refused Refusal.KeeperFault) ∷ past old) = ap keeper_faults (appended-past client event old.house_log new.house_log p ∙ ap (λ (x : Event). x ∷ past old) (sym e)) in
     counted-more signs old new q h t
@@ -181,7 +182,7 @@ unmet client ticket note (ClaimAnswer.Entry entry) h = cc
 unmet client ticket note (ClaimAnswer.Kept entry state) h = refl
 unmet client ticket note (ClaimAnswer.Refused refusal) h = h
 
-pub faults-unclaimed : {K : Type 0} (signs : Signs K) (client : ℕ) (ticket : Ticket) (note : FetchNote) (answer : ClaimAnswer) (old new : Housed K) → Appended client (claims client ticket note answer) old.house_log new.house_log → is_taken answer ≡ false → new.keeper ≡ old.keeper → KeeperFared signs old new
+pub faults-unclaimed : {K : Type 0} (signs : KeeperSigns K) (client : ℕ) (ticket : Ticket) (note : FetchNote) (answer : ClaimAnswer) (old new : Housed K) → Appended client (claims client ticket note answer) old.house_log new.house_log → is_taken answer ≡ false → new.keeper ≡ old.keeper → KeeperFared signs old new
 faults-unclaimed signs client ticket note answer old new p h k =
     fared-same signs old new (quiet-faults client (claims client ticket note answer) old.house_log new.house_log p (unmet client ticket note answer h)) k
 
@@ -189,7 +190,7 @@ faults-unclaimed signs client ticket note answer old new p h k =
 
 pub refused-none : (a : HouseLogView) (client : ℕ) (ticket : Ticket) (refusal : Refusal) (answer : ClaimAnswer) → answer ≡ ClaimAnswer.Refused refusal → claim_verdict a client ticket ≡ Decision.Refused refusal → is_taken answer ≡ false
 refused-none a client ticket refusal answer e d =
-    ap is_taken e ∙ refusal-other (case_of a.facts (rows_before a) (past_in a) client ticket.request (Stage.Claim ticket.release)) refusal d
+    ap is_taken e ∙ refusal-other (case_of (basis_in a) (past_in a) client ticket.request (Stage.Claim ticket.release)) refusal d
 
 pub refused-answers : (a : HouseLogView) (client : ℕ) (ticket : Ticket) (note : FetchNote) (refusal : Refusal) (answer : ClaimAnswer) → answer ≡ ClaimAnswer.Refused refusal → claim_verdict a client ticket ≡ Decision.Refused refusal → MayAnswer a client ticket note answer
 refused-answers a client ticket note refusal answer e d = subst (λ (x : ClaimAnswer). MayAnswer a client ticket note x) (sym e) (answers-refused a client ticket note refusal d)
@@ -200,8 +201,8 @@ broken-answers a client ticket fetched note answer e n w h =
 
 -- ---- a claim for which the keeper wanted memory
 
-pub house-left : {K : Type 0} (told : K → List Row → Type 0) (doubted : K → Option Change) (client : ℕ) (ticket : Ticket) (payload : SealedBytes) (row : Row) (number : ℕ) (h : Housed K) (keeper : K) → IsHouse told doubted h → IsHouseLog h.house_log → Storing h.house_log client ticket payload row number → StillTold (told h.keeper) (told keeper) × (doubted keeper ≡ None) → IsHouse told doubted (record h { keeper = keeper })
-house-left told doubted client ticket payload row number h keeper w k s c = house-unstored told doubted h h.house_log keeper refl w k s.may.loaded s.may.runs.on c
+pub house-left : {K : Type 0} (signs : KeeperSigns K) (client : ℕ) (ticket : Ticket) (payload : SealedBytes) (row : Row) (number : ℕ) (h : Housed K) (keeper : K) → IsHouse signs h → IsHouseLog h.house_log → Storing h.house_log client ticket payload row number → StillTold (signs.tells h.keeper) (signs.tells keeper) × (signs.doubt keeper ≡ None) → IsHouse signs (record h { keeper = keeper })
+house-left signs client ticket payload row number h keeper w k s c = house-unstored signs h h.house_log keeper refl w k s.may.loaded s.may.runs.on c
 
 pub turn-left : (a b : HouseLogView) (client blocks : ℕ) (ticket : Ticket) (event : Claimed → Event) → a ≡ b → MayClaim b client ticket blocks → Turned client event (Err Stop.NoMemory) b a
 turn-left a b client blocks ticket event e m = (m.runs.on, same-unchanged b a e)
@@ -214,14 +215,14 @@ pub record TakePlan {K : Type 0} (h : Housed K) (client : ℕ) (ticket : Ticket)
   pub home : IsSome (place_at h.places number).board
   pub store : IsToStore h.house_log client ticket row number
 
-pub take-plan : {K : Type 0} (told : K → List Row → Type 0) (doubted : K → Option Change) (client blocks : ℕ) (ticket : Ticket) (row : Row) (number : ℕ) (h b : Housed K) → h ≡ b → IsHouse told doubted h → IsHouseLog h.house_log → MayClaim b.house_log client ticket blocks → IsAccept (claim_verdict b.house_log client ticket) → AddsRow h.house_log client ticket row
+pub take-plan : {K : Type 0} (signs : KeeperSigns K) (client blocks : ℕ) (ticket : Ticket) (row : Row) (number : ℕ) (h b : Housed K) → h ≡ b → IsHouse signs h → IsHouseLog h.house_log → MayClaim b.house_log client ticket blocks → IsAccept (claim_verdict b.house_log client ticket) → AddsRow h.house_log client ticket row
     → row.entry ≡ length h.house_log.core.rows + 1 → Suits (Change.Add row) h.house_log.core.rows → IsTimely (Change.Add row) → number ≡ unwrap_or (board_with h.house_log.facts row.device) 0 → TakePlan b client ticket row number
-take-plan {K = K} told doubted client blocks ticket row number h b e w k m v added entry suits timely num =
+take-plan {K = K} signs client blocks ticket row number h b e w k m v added entry suits timely num =
     let m' : MayClaim h.house_log client ticket blocks = subst (λ (x : Housed K). MayClaim x.house_log client ticket blocks) (sym e) m in
     let v' : IsAccept (claim_verdict h.house_log client ticket) = subst (λ (x : Housed K). IsAccept (claim_verdict x.house_log client ticket)) (sym e) v in
     let s = (store-plan h.house_log client ticket row number v' added entry suits timely num).store in
-    let within = store-within told doubted client ticket row number h w s in
-    let board = claim-board told doubted client blocks ticket row number h w k m' s within in
+    let within = store-within signs client ticket row number h w s in
+    let board = claim-board signs client blocks ticket row number h w k m' s within in
     subst (λ (x : Housed K). TakePlan x client ticket row number) e (record { within = within; home = ap is_some board.1; store = s })
 
 -- What holds of a house log holds of an equal one.

@@ -5,13 +5,13 @@ use Rattle.std.proofs.lemmas.Bool.{eqb-true}
 use Rattle.fw_facts.specs.declared.seen.Seen.{Seen}
 use Rattle.fw_facts.specs.declared.view.DeviceView.{DeviceView}
 use Rattle.history_keeper.specs.declared.row.Row.{Row}
-use Rattle.update_log.proofs.CoreTells.{tells-same}
+use Rattle.core_state.proofs.CoreTells.{tells-same}
 use Rattle.update_log.proofs.Lists.{by_test, eqb-self}
 use Rattle.update_log.specs.Boards.{devices}
-use Rattle.update_log.specs.Core.{Core, Stands}
-use Rattle.update_log.specs.CoreSteps.{board_of_entry}
+use Rattle.core_state.specs.Core.{Core, Stands}
+use Rattle.core_state.specs.CoreSteps.{board_of_entry}
 use Rattle.update_log.specs.Holding.{live}
-use Rattle.update_log.specs.Known.{Known, board_of, for_board, known, views, views_in}
+use Rattle.update_log.specs.Known.{Basis, Known, board_of, for_board, known, views, views_in}
 use Rattle.update_log.specs.Pasts.{past_of}
 use Rattle.update_log.specs.declared.event.Event.{Event}
 use Rattle.update_log.specs.declared.event.Op.{Op}
@@ -37,10 +37,10 @@ entry-board : (facts : Facts) (entries : List LiveEntry) (known : Known) (entry 
 entry-board facts entries known entry =
     same-number _ _ (λ board. tells-same facts entries known (Event.End 0 entry Op.Prepare (Ok tt) [] Seen.Gone) board)
 
-pub board-kept : (facts : Facts) (opening : List Row) (core : Core) (entry : ℕ) → Stands facts opening core → board_of_entry core.boards core.views core.rows entry ≡ board_of facts core.rows entry
-board-kept facts opening core entry s =
+pub board-kept : (basis : Basis) (core : Core) (entry : ℕ) → Stands basis core → board_of_entry core.boards core.views core.rows entry ≡ board_of basis.facts core.rows entry
+board-kept basis core entry s =
     ap (λ (bs : List ℕ). board_of_entry bs core.views core.rows entry) s.boards
-    ∙ ap (λ (vs : List DeviceView). board_of_entry (map (λ b. b.number) (devices facts)) vs core.rows entry) s.views
-    ∙ ap (λ (rs : List Row). board_of_entry (map (λ b. b.number) (devices facts)) (views facts opening (past_of core.log)) rs entry) s.rows
-    ∙ entry-board facts (live (past_of core.log)) (known facts opening (past_of core.log)) entry
-    ∙ ap (λ (rs : List Row). board_of facts rs entry) (sym s.rows)
+    ∙ ap (λ (vs : List DeviceView). board_of_entry (map (λ b. b.number) (devices basis.facts)) vs core.rows entry) s.views
+    ∙ ap (λ (rs : List Row). board_of_entry (map (λ b. b.number) (devices basis.facts)) (views basis (past_of core.log)) rs entry) s.rows
+    ∙ entry-board basis.facts (live (past_of core.log)) (known basis (past_of core.log)) entry
+    ∙ ap (λ (rs : List Row). board_of basis.facts rs entry) (sym s.rows)

@@ -3,7 +3,6 @@ use Rattle.std.proofs.Common.{◌≡◌, ℕ, true, false, ◌||◌, List, [], �
 use Rattle.std.specs.Prelude.{Some, None, ◌==◌, find}
 use Rattle.std.specs.List.{AllByRecursion}
 use Rattle.std.proofs.lemmas.Bool.{eqb-true, or_parts}
-use Rattle.history_keeper.specs.declared.row.Row.{Row}
 use Rattle.update_log.proofs.Lists.{All-find, All-filter, All-map, All-push, by_test, find-passes}
 use Rattle.update_log.specs.Holding.{is_live, live, live_entry, open_steps, step_open, without_entry}
 use Rattle.update_log.specs.Legal.{Allowed, IsLegal}
@@ -59,31 +58,31 @@ both-left : (entries : List LiveEntry) (gone : ℕ) (steps : List OpenStep) → 
 both-left entries gone [] n a = tt
 both-left entries gone (s ∷ ss) n a = (live-left entries gone s.entry n.0 a.0, both-left entries gone ss n.1 a.1)
 
-open-step : (c : Campaign) (opening : List Row) (past : List Event) (event : Event) → Allowed c opening past event → OpenLive past → OpenLive (event ∷ past)
-open-step c opening past (Event.Boot number time limit found boards) a k o = tt
-open-step c opening past (Event.Claim client request fetched (ClaimAnswer.Entry entry)) a k o =
+open-step : (c : Campaign) (past : List Event) (event : Event) → Allowed c past event → OpenLive past → OpenLive (event ∷ past)
+open-step c past (Event.Boot number time limit found boards) a k o = tt
+open-step c past (Event.Claim client request fetched (ClaimAnswer.Entry entry)) a k o =
     All-map _ _ (open_steps past) (k o) (λ s h. live-push (live past) _ s.entry h)
-open-step c opening past (Event.Claim client request fetched (ClaimAnswer.Refused refusal)) a k o = k (or_parts (is_keeper_fault refusal) (off past) o).1
-open-step c opening past (Event.Schedule client request (ClaimAnswer.Refused refusal)) a k o = k (or_parts (is_keeper_fault refusal) (off past) o).1
-open-step c opening past (Event.Resume client entry fetched ResumeAnswer.Begun stored) a k o =
+open-step c past (Event.Claim client request fetched (ClaimAnswer.Refused refusal)) a k o = k (or_parts (is_keeper_fault refusal) (off past) o).1
+open-step c past (Event.Schedule client request (ClaimAnswer.Refused refusal)) a k o = k (or_parts (is_keeper_fault refusal) (off past) o).1
+open-step c past (Event.Resume client entry fetched ResumeAnswer.Begun stored) a k o =
     All-map _ _ (open_steps past) (k (or_parts (is_fault stored) (off past) o).1) (λ s h. live-push (live past) _ s.entry h)
-open-step c opening past (Event.Resume client entry fetched (ResumeAnswer.Refused refusal) stored) a k o = k (or_parts (is_keeper_fault refusal || is_fault stored) (off past) o).1
-open-step c opening past (Event.Start client entry op) a k o =
+open-step c past (Event.Resume client entry fetched (ResumeAnswer.Refused refusal) stored) a k o = k (or_parts (is_keeper_fault refusal || is_fault stored) (off past) o).1
+open-step c past (Event.Start client entry op) a k o =
     let s = a.1 in
     All-push _ (open_steps past) (record { client = client; entry = entry; op = op }) (k o) (live-found (live past) entry a.0 s.live)
-open-step c opening past (Event.End client entry op outcome told seen) a k o =
+open-step c past (Event.End client entry op outcome told seen) a k o =
     All-filter _ _ _ (open_steps past) (k o) (λ s h _. h)
-open-step c opening past (Event.Finish client entry state stored) a k o =
+open-step c past (Event.Finish client entry state stored) a k o =
     let f = a.2 in
     both-left (live past) entry (open_steps past) (not-open (open_steps past) entry f.open_none) (k (or_parts (is_fault stored) (off past) o).1)
-open-step c opening past (Event.Judge client entry version state stored) a k o = k (or_parts (is_fault stored) (off past) o).1
-open-step c opening past (Event.GiveBack client (Back.Entry entry)) a k o = let off-is : off past ≡ true = a.3 in cc
-open-step c opening past Event.Cut a k o = cc
-open-step c opening past _ a k o = k o
+open-step c past (Event.Judge client entry version state stored) a k o = k (or_parts (is_fault stored) (off past) o).1
+open-step c past (Event.GiveBack client (Back.Entry entry)) a k o = let off-is : off past ≡ true = a.3 in cc
+open-step c past Event.Cut a k o = cc
+open-step c past _ a k o = k o
 
-pub open-live : (c : Campaign) (opening : List Row) (past : List Event) → IsLegal c opening past → OpenLive past
-open-live c opening [] l o = tt
-open-live c opening (event ∷ past) l o = open-step c opening past event l.2 (open-live c opening past l.0) o
+pub open-live : (c : Campaign) (past : List Event) → IsLegal c past → OpenLive past
+open-live c [] l o = tt
+open-live c (event ∷ past) l o = open-step c past event l.2 (open-live c past l.0) o
 
 -- so the entry of an open step is found among the live ones
 pub found-live : (entries : List LiveEntry) (entry : ℕ) → is_live entries entry ≡ true → (l : LiveEntry) × (find (λ x. x.entry == entry) entries ≡ Some l)
@@ -93,8 +92,8 @@ found-live (x ∷ xs) entry h =
     (λ t. (x, rw t refl))
     (λ t. let r = found-live xs entry (rw t at h) in (r.0, rw t r.1))
 
-pub open-entry_live : (c : Campaign) (opening : List Row) (past : List Event) (entry : ℕ) (s : OpenStep) → IsLegal c opening past → off past ≡ false → step_open past entry ≡ Some s → (l : LiveEntry) × (live_entry past entry ≡ Some l)
-open-entry_live c opening past entry s l o e =
+pub open-entry_live : (c : Campaign) (past : List Event) (entry : ℕ) (s : OpenStep) → IsLegal c past → off past ≡ false → step_open past entry ≡ Some s → (l : LiveEntry) × (live_entry past entry ≡ Some l)
+open-entry_live c past entry s l o e =
     let same : s.entry ≡ entry = eqb-true s.entry entry (find-passes (λ x. x.entry == entry) (open_steps past) s e) in
-    let h : is_live (live past) s.entry ≡ true = All-find (λ x. is_live (live past) x.entry ≡ true) (λ x. x.entry == entry) (open_steps past) s (open-live c opening past l o) e in
+    let h : is_live (live past) s.entry ≡ true = All-find (λ x. is_live (live past) x.entry ≡ true) (λ x. x.entry == entry) (open_steps past) s (open-live c past l o) e in
     found-live (live past) entry (ap (is_live (live past)) (sym same) ∙ h)

@@ -8,12 +8,11 @@ use Rattle.emulated_boards.specs.Conditions.{booted, plugged, view_of}
 use Rattle.emulated_boards.specs.declared.condition.Condition.{Condition}
 use Rattle.emulated_boards.specs.declared.mark.Mark.{Mark}
 use Rattle.fw_facts.specs.declared.seen.Seen.{Seen}
-use Rattle.history_keeper.specs.declared.change.Change.{Change}
-use Rattle.history_keeper.specs.declared.row.Row.{Row}
+use Rattle.history_keeper.specs.Signs.{KeeperSigns}
 use Rattle.update_log.specs.Once as once
 use Rattle.update_log.specs.Shows.{FreshShows, IsWritten}
+use Rattle.update_log.specs.Known.{Basis}
 use Rattle.update_log.specs.declared.event.Event.{Event}
-use Rattle.update_log.specs.declared.facts.Facts.{Facts}
 use Rattle.daemon_core.specs.Boards.{BoardIsHome, BoardStands, PlaceStands, faulty_ends, is_out}
 use Rattle.daemon_core.specs.Claims.{RoomierAt, RoomierBoard, RoomierPlace, RoomierPlaces, places_without}
 use Rattle.daemon_core.specs.House.{IsHouse}
@@ -176,36 +175,36 @@ room-on a b c r s =
 
 -- ---- what stands on
 
-stands-roomier : (facts : Facts) (first : List Seen) (opening : List Row) (past : List Event) (number : ℕ) (b b' : BoardState) (tail : List Mark) → SameBoard b b' → BoardStands facts first opening past number b tail → BoardStands facts first opening past number b' tail
-stands-roomier facts first opening past number b b' tail s k =
+stands-roomier : (basis : Basis) (first : List Seen) (past : List Event) (number : ℕ) (b b' : BoardState) (tail : List Mark) → SameBoard b b' → BoardStands basis first past number b tail → BoardStands basis first past number b' tail
+stands-roomier basis first past number b b' tail s k =
     record {
       fits =
-          subst (λ (j : List Mark). once.BoardFits facts first opening past number (record { journal = j; view = view_of b'.condition }) tail) (sym s.journal)
-          (subst (λ (c : Condition). once.BoardFits facts first opening past number (record { journal = b.journal; view = view_of c }) tail) (sym s.condition) k.fits);
-      boots = λ absent. subst (λ (c : Condition). FreshShows facts first opening past number tail (view_of (booted absent c))) (sym s.condition) (k.boots absent);
-      plugs = λ n. subst (λ (c : Condition). FreshShows facts first opening past number [] (view_of (plugged c))) (sym s.condition) (k.plugs n);
+          subst (λ (j : List Mark). once.BoardFits basis first past number (record { journal = j; view = view_of b'.condition }) tail) (sym s.journal)
+          (subst (λ (c : Condition). once.BoardFits basis first past number (record { journal = b.journal; view = view_of c }) tail) (sym s.condition) k.fits);
+      boots = λ absent. subst (λ (c : Condition). FreshShows basis first past number tail (view_of (booted absent c))) (sym s.condition) (k.boots absent);
+      plugs = λ n. subst (λ (c : Condition). FreshShows basis first past number [] (view_of (plugged c))) (sym s.condition) (k.plugs n);
       staged = λ image e. subst (λ (j : List Mark). IsWritten past j (unwrap_or image.raw 0)) (sym s.journal) (k.staged image (sym (ap (λ (c : Condition). c.staged) s.condition) ∙ e));
-      faults = subst (λ (n : ℕ). faulty_ends facts opening past number ≤ n) (sym s.faults) k.faults;
+      faults = subst (λ (n : ℕ). faulty_ends basis past number ≤ n) (sym s.faults) k.faults;
     }
 
-home-roomier : (facts : Facts) (first : List Seen) (opening : List Row) (past : List Event) (number : ℕ) (o p : Option BoardState) → RoomierBoard o p → BoardIsHome facts first opening past number o → BoardIsHome facts first opening past number p
-home-roomier facts first opening past number None None r h = h
-home-roomier facts first opening past number None (Some b) r h = absurd r
-home-roomier facts first opening past number (Some a) None r h = absurd r
-home-roomier facts first opening past number (Some a) (Some b) r h = (h.0, (h.1.0, stands-roomier facts first opening past number a b h.1.0 r h.1.1))
+home-roomier : (basis : Basis) (first : List Seen) (past : List Event) (number : ℕ) (o p : Option BoardState) → RoomierBoard o p → BoardIsHome basis first past number o → BoardIsHome basis first past number p
+home-roomier basis first past number None None r h = h
+home-roomier basis first past number None (Some b) r h = absurd r
+home-roomier basis first past number (Some a) None r h = absurd r
+home-roomier basis first past number (Some a) (Some b) r h = (h.0, (h.1.0, stands-roomier basis first past number a b h.1.0 r h.1.1))
 
-place-roomier : (facts : Facts) (first : List Seen) (opening : List Row) (past : List Event) (number : ℕ) (p q : Place) → RoomierPlace p q → PlaceStands facts first opening past number p → PlaceStands facts first opening past number q
-place-roomier facts first opening past number p q r s = record { told = r.told_same ∙ s.told; home = home-roomier facts first opening past number p.board q.board r.board_same s.home }
+place-roomier : (basis : Basis) (first : List Seen) (past : List Event) (number : ℕ) (p q : Place) → RoomierPlace p q → PlaceStands basis first past number p → PlaceStands basis first past number q
+place-roomier basis first past number p q r s = record { told = r.told_same ∙ s.told; home = home-roomier basis first past number p.board q.board r.board_same s.home }
 
-pub places-roomier : (facts : Facts) (first : List Seen) (opening : List Row) (past : List Event) (old new : List Place) → RoomierPlaces old new → ((n : ℕ) (p : Place) → slice_get old n ≡ Some p → PlaceStands facts first opening past n p) → (n : ℕ) (p : Place) → slice_get new n ≡ Some p → PlaceStands facts first opening past n p
-places-roomier facts first opening past old new r s n p e = let w = r.each n p e in place-roomier facts first opening past n w.0 p w.2 (s n w.0 w.1)
+pub places-roomier : (basis : Basis) (first : List Seen) (past : List Event) (old new : List Place) → RoomierPlaces old new → ((n : ℕ) (p : Place) → slice_get old n ≡ Some p → PlaceStands basis first past n p) → (n : ℕ) (p : Place) → slice_get new n ≡ Some p → PlaceStands basis first past n p
+places-roomier basis first past old new r s n p e = let w = r.each n p e in place-roomier basis first past n w.0 p w.2 (s n w.0 w.1)
 
 -- It is the same house.
-pub house-with_room : {K : Type 0} (told : K → List Row → Type 0) (doubted : K → Option Change) (h : Housed K) (places : List Place) → IsHouse told doubted h → RoomierPlaces h.places places → IsHouse told doubted (record h { places = places })
-house-with_room told doubted h places w r =
+pub house-with_room : {K : Type 0} (signs : KeeperSigns K) (h : Housed K) (places : List Place) → IsHouse signs h → RoomierPlaces h.places places → IsHouse signs (record h { places = places })
+house-with_room signs h places w r =
     record {
       count = r.count ∙ w.count;
-      places = places-roomier _ _ _ _ h.places places r w.places;
+      places = places-roomier _ _ _ h.places places r w.places;
       unloaded = w.unloaded;
       kept = w.kept;
       capacity = w.capacity;
@@ -213,6 +212,6 @@ house-with_room told doubted h places w r =
     }
 
 -- Where it stood, there is a board.
-pub home-board : (facts : Facts) (first : List Seen) (opening : List Row) (past : List Event) (number : ℕ) (o : Option BoardState) → is_out facts opening past number ≡ false → BoardIsHome facts first opening past number o → (b : BoardState) × (o ≡ Some b) × ((tail : List Mark) × BoardStands facts first opening past number b tail)
-home-board facts first opening past number None out h = let bad : true ≡ false = sym h ∙ out in cc
-home-board facts first opening past number (Some b) out h = (b, refl, h.1)
+pub home-board : (basis : Basis) (first : List Seen) (past : List Event) (number : ℕ) (o : Option BoardState) → is_out basis past number ≡ false → BoardIsHome basis first past number o → (b : BoardState) × (o ≡ Some b) × ((tail : List Mark) × BoardStands basis first past number b tail)
+home-board basis first past number None out h = let bad : true ≡ false = sym h ∙ out in cc
+home-board basis first past number (Some b) out h = (b, refl, h.1)

@@ -7,12 +7,13 @@ use Rattle.history_keeper.specs.declared.change.Change.{Change}
 use Rattle.history_keeper.specs.declared.refusal.KeeperRefusal.{KeeperRefusal}
 use Rattle.history_keeper.specs.declared.row.Row.{Row}
 use Rattle.history_keeper.specs.Keepers.{StillTold, ToldWith}
+use Rattle.history_keeper.specs.Signs.{KeeperSigns}
 use Rattle.update_log.proofs.Lists.{by_test}
 use Rattle.update_log.specs.declared.event.Stored.{Stored}
 use Rattle.update_log.specs.Pasts.{is_fault}
 use Rattle.daemon_core.specs.Housed.{Housed, past}
 use Rattle.daemon_core.specs.Keeping.{keeper_faults}
-use Rattle.daemon_core.specs.Turns.{KeeperFared, Signs, ToldBefore}
+use Rattle.daemon_core.specs.Turns.{KeeperFared, ToldBefore}
 
 -- ---- what was told before
 
@@ -30,8 +31,8 @@ module _ {K : Type 0} (told : K → List Row → Type 0) where
   pub told-with : (old new : K) (change : Change) → ToldWith change (told old) (told new) → ToldBefore told old new
   told-with old new change h all t = let before = h all t in (before.0, before.1)
 
-  pub told-left : (doubted : K → Option Change) (old new : K) (left : Option Change) → StillTold (told old) (told new) × (doubted new ≡ left) → ToldBefore told old new
-  told-left doubted old new left h = told-still old new h.0
+pub told-left : {K : Type 0} (signs : KeeperSigns K) (old new : K) (left : Option Change) → StillTold (signs.tells old) (signs.tells new) × (signs.doubt new ≡ left) → ToldBefore signs.tells old new
+told-left signs old new left h = told-still signs.tells old new h.0
 
 -- ---- what was no fault
 
@@ -55,7 +56,7 @@ counted-over end was mid now before between after (inl a) (inl b) c = inl (omega
 counted-over end was mid now before between after (inl a) (inr b) c = inr b
 counted-over end was mid now before between after (inr a) b c = inr (omega (arith, a, c))
 
-module _ {K : Type 0} (signs : Signs K) where
+module _ {K : Type 0} (signs : KeeperSigns K) where
   -- The log tells no more faults, and the keeper is the same.
   pub fared-same : (old new : Housed K) → keeper_faults (past new) ≡ keeper_faults (past old) → new.keeper ≡ old.keeper → KeeperFared signs old new
   fared-same old new e k =

@@ -4,7 +4,6 @@ use Rattle.std.specs.Prelude.{Some, None, ◌==◌, find, filter, sum_by}
 use Rattle.std.specs.List.{AllByRecursion, list_any}
 use Rattle.std.proofs.lemmas.Bool.{eqb-true, eq-eqb}
 use Rattle.std.proofs.lemmas.List.Sums.{sum_by-cons}
-use Rattle.history_keeper.specs.declared.row.Row.{Row}
 use Rattle.history_keeper.specs.declared.row.RowState.{RowState}
 use Rattle.history_keeper.specs.Histories.{IsHistory}
 use Rattle.update_log.proofs.LegalOnce.{live-others, past-kept}
@@ -111,55 +110,55 @@ both-apart past h (l ∷ ls) a b =
 fewer-apart : (past : List Event) (client : ℕ) (ls : List LiveEntry) → AllByRecursion (λ (l : LiveEntry). hold past l.client ≡ None) ls → AllByRecursion (λ (l : LiveEntry). find (λ (x : Held). x.client == l.client) (without_client client (holds past)) ≡ None) ls
 fewer-apart past client ls a = All-map _ _ ls a (λ l h. none-found (λ (x : Held). x.client == l.client) (λ (x : Held). not (x.client == client)) (holds past) h)
 
-once-step : (c : Campaign) (opening : List Row) (past : List Event) (event : Event) → IsHistory opening → IsLegal c opening past → Allowed c opening past event → OutOnce past → OutOnce (event ∷ past)
-once-step c opening past (Event.Boot number time limit found boards) v l a k = record { holds_once = λ _. omega arith; live_once = λ _. omega arith; apart = tt }
-once-step c opening past (Event.Ask client request pending (AskAnswer.Hold blocks release)) v l a k =
+once-step : (c : Campaign) (past : List Event) (event : Event) → IsHistory c.basis.opening → IsLegal c past → Allowed c past event → OutOnce past → OutOnce (event ∷ past)
+once-step c past (Event.Boot number time limit found boards) v l a k = record { holds_once = λ _. omega arith; live_once = λ _. omega arith; apart = tt }
+once-step c past (Event.Ask client request pending (AskAnswer.Hold blocks release)) v l a k =
     let h : Held = record { client = client; request = request; pending = pending; blocks = blocks; release = release } in
     record {
       holds_once = held-once (holds past) h client k.holds_once refl;
       live_once = k.live_once;
       apart = both-apart past h (live past) (not-client (live past) client a.free.live) k.apart;
     }
-once-step c opening past (Event.Claim client request fetched (ClaimAnswer.Entry entry)) v l a k =
-    let w = past-kept c opening past v l in
+once-step c past (Event.Claim client request fetched (ClaimAnswer.Entry entry)) v l a k =
+    let w = past-kept c past v l in
     let ca = a.1 in
-    let d = accepted-claim fetched (target c.facts (views c.facts opening past) request) (next_entry c.facts opening past) (verdict c.facts opening past client request (Stage.Claim a.0.release)) entry ca.answer_is in
-    let next : entry ≡ length (rows c.facts opening past) + 1 = d.4 in
+    let d = accepted-claim fetched (target c.basis.facts (views c.basis past) request) (next_entry c.basis past) (verdict c.basis past client request (Stage.Claim a.0.release)) entry ca.answer_is in
+    let next : entry ≡ length (rows c.basis past) + 1 = d.4 in
     record {
       holds_once = fewer-holds (holds past) client k.holds_once;
       live_once = live-push_once (live past) (record { client = client; entry = entry; blocks = blocks_fetched fetched }) k.live_once
-          (All-map _ _ (live past) w.steps.live_is (λ x u. eqb-other entry x.entry (λ s. let le : x.entry ≤ length (rows c.facts opening past) = u.known in omega arith)));
+          (All-map _ _ (live past) w.steps.live_is (λ x u. eqb-other entry x.entry (λ s. let le : x.entry ≤ length (rows c.basis past) = u.known in omega arith)));
       apart = All-push _ (live past) (record { client = client; entry = entry; blocks = blocks_fetched fetched }) (fewer-apart past client (live past) k.apart) (find-filter_none (λ (x : Held). x.client == client) (holds past));
     }
-once-step c opening past (Event.Claim client request fetched (ClaimAnswer.Kept entry state)) v l a k =
+once-step c past (Event.Claim client request fetched (ClaimAnswer.Kept entry state)) v l a k =
     record { holds_once = fewer-holds (holds past) client k.holds_once; live_once = k.live_once; apart = fewer-apart past client (live past) k.apart }
-once-step c opening past (Event.Claim client request fetched (ClaimAnswer.Refused refusal)) v l a k =
+once-step c past (Event.Claim client request fetched (ClaimAnswer.Refused refusal)) v l a k =
     record { holds_once = fewer-holds (holds past) client k.holds_once; live_once = k.live_once; apart = fewer-apart past client (live past) k.apart }
-once-step c opening past (Event.Resume client entry fetched ResumeAnswer.Begun stored) v l a k =
-    let w = past-kept c opening past v l in
+once-step c past (Event.Resume client entry fetched ResumeAnswer.Begun stored) v l a k =
+    let w = past-kept c past v l in
     let ra = a.1 in
     let pending : is_pending a.0.state ≡ true = (let p : a.0.state ≡ RowState.Pending = ra.pending in rw p refl) in
     let none : how_many (takes entry) past ≡ 0 = w.waiting.untaken entry a.0 ra.row_is pending in
     record {
       holds_once = fewer-holds (holds past) client k.holds_once;
-      live_once = live-push_once (live past) (record { client = client; entry = entry; blocks = blocks_fetched_if fetched }) k.live_once (live-others c.facts opening past entry none w.taken.live_taken);
+      live_once = live-push_once (live past) (record { client = client; entry = entry; blocks = blocks_fetched_if fetched }) k.live_once (live-others c.basis past entry none w.taken.live_taken);
       apart = All-push _ (live past) (record { client = client; entry = entry; blocks = blocks_fetched_if fetched }) (fewer-apart past client (live past) k.apart) (find-filter_none (λ (x : Held). x.client == client) (holds past));
     }
-once-step c opening past (Event.Resume client entry fetched (ResumeAnswer.Refused refusal) stored) v l a k =
+once-step c past (Event.Resume client entry fetched (ResumeAnswer.Refused refusal) stored) v l a k =
     record { holds_once = fewer-holds (holds past) client k.holds_once; live_once = k.live_once; apart = fewer-apart past client (live past) k.apart }
-once-step c opening past (Event.Finish client entry state stored) v l a k =
+once-step c past (Event.Finish client entry state stored) v l a k =
     record { holds_once = k.holds_once; live_once = fewer-live (live past) entry k.live_once; apart = All-filter _ _ (λ (x : LiveEntry). not (x.entry == entry)) (live past) k.apart (λ x h _. h) }
-once-step c opening past (Event.GiveBack client (Back.Tag tag)) v l a k =
+once-step c past (Event.GiveBack client (Back.Tag tag)) v l a k =
     record { holds_once = fewer-holds (holds past) client k.holds_once; live_once = k.live_once; apart = fewer-apart past client (live past) k.apart }
-once-step c opening past (Event.GiveBack client (Back.Pending entry)) v l a k =
+once-step c past (Event.GiveBack client (Back.Pending entry)) v l a k =
     record { holds_once = fewer-holds (holds past) client k.holds_once; live_once = k.live_once; apart = fewer-apart past client (live past) k.apart }
-once-step c opening past (Event.GiveBack client (Back.Entry entry)) v l a k =
+once-step c past (Event.GiveBack client (Back.Entry entry)) v l a k =
     record { holds_once = fewer-holds (holds past) client k.holds_once; live_once = fewer-live (live past) entry k.live_once; apart = All-filter _ _ (λ (x : LiveEntry). not (x.entry == entry)) (live past) (fewer-apart past client (live past) k.apart) (λ x h _. h) }
-once-step c opening past _ v l a k = record { holds_once = k.holds_once; live_once = k.live_once; apart = k.apart }
+once-step c past _ v l a k = record { holds_once = k.holds_once; live_once = k.live_once; apart = k.apart }
 
-pub out-once : (c : Campaign) (opening : List Row) (past : List Event) → IsHistory opening → IsLegal c opening past → OutOnce past
-out-once c opening [] v l = record { holds_once = λ _. omega arith; live_once = λ _. omega arith; apart = tt }
-out-once c opening (event ∷ past) v l = once-step c opening past event v l.0 l.2 (out-once c opening past v l.0)
+pub out-once : (c : Campaign) (past : List Event) → IsHistory c.basis.opening → IsLegal c past → OutOnce past
+out-once c [] v l = record { holds_once = λ _. omega arith; live_once = λ _. omega arith; apart = tt }
+out-once c (event ∷ past) v l = once-step c past event v l.0 l.2 (out-once c past v l.0)
 
 -- What a filter takes away from a sum, where it takes one.
 pub sum-once : {X : Type 0} (f : X → ℕ) (p : X → Bool) (xs : List X) (x : X) → find p xs ≡ Some x → how_many p xs ≤ 1 → sum_by f (filter (λ y. not (p y)) xs) + f x ≡ sum_by f xs

@@ -3,14 +3,14 @@ use Rattle.std.proofs.Common.{◌≡◌, ℕ, ◌<◌, ◌≤◌, ◌+◌, ◌-�
 use Rattle.fw_facts.specs.declared.seen.Seen.{Seen}
 use Rattle.history_keeper.specs.declared.row.Row.{Row}
 use Rattle.update_log.proofs.Pasts.{past-push}
-use Rattle.update_log.specs.Core.{Stands}
-use Rattle.update_log.specs.CoreFolds.{AllFaults}
+use Rattle.core_state.specs.Core.{Stands}
+use Rattle.update_log.specs.Pasts.{AllFaults, boots, is_boot, past_of, time_of}
 use Rattle.update_log.specs.Legal.{BootTakes}
-use Rattle.update_log.specs.Pasts.{boots, is_boot, past_of, time_of}
+use Rattle.update_log.specs.Known.{Basis, basis_of}
 use Rattle.update_log.specs.declared.event.Event.{Event}
 use Rattle.update_log.specs.declared.facts.Facts.{Facts}
 use Rattle.daemon_core.specs.HouseLog.{Appended, IsAllowedSo, IsHouseLog, IsLegalSo, IsMadeBy, MadeBy}
-use Rattle.daemon_core.specs.Housed.{HouseLogView, past_in, rows_before, rows_taken}
+use Rattle.daemon_core.specs.Housed.{basis_in, HouseLogView, past_in, rows_before, rows_taken}
 use Rattle.daemon_core.specs.Owed.{owed}
 
 -- Makers grow with the log.
@@ -29,8 +29,8 @@ appended-before client event old new a = ap (λ (b : Bool). rows_taken b new.ope
 
 -- The house log after an event that may come.
 pub record Next (client : ℕ) (event : Event) (old new : HouseLogView) : Type 0 where
-  pub legal : IsLegalSo old.facts old.first (rows_before old) (event ∷ past_in old)
-  pub stands : Stands old.facts (rows_before old) new.core
+  pub legal : IsLegalSo (basis_in old) old.first (event ∷ past_in old)
+  pub stands : Stands (basis_in old) new.core
   pub made : IsMadeBy event client
   pub unloaded : old.loaded ≡ false → AllFaults (event ∷ past_in old)
   pub owed_room : owed (event ∷ past_in old) + 1 ≤ old.room
@@ -47,13 +47,13 @@ house_log-after client event old new k a n =
     let owes = n.owed_room in
     record {
       legal =
-          subst (λ (f : Facts). IsLegalSo f new.first (rows_before new) (past_in new)) (sym a.same.facts)
-          (subst (λ (s : List Seen). IsLegalSo old.facts s (rows_before new) (past_in new)) (sym a.same.first)
-          (subst (λ (o : List Row). IsLegalSo old.facts old.first o (past_in new)) (sym b)
-          (subst (λ (es : List Event). IsLegalSo old.facts old.first (rows_before old) es) (sym p) n.legal)));
+          subst (λ (f : Facts). IsLegalSo (basis_of f (rows_before new)) new.first (past_in new)) (sym a.same.facts)
+          (subst (λ (s : List Seen). IsLegalSo (basis_of old.facts (rows_before new)) s (past_in new)) (sym a.same.first)
+          (subst (λ (o : List Row). IsLegalSo (basis_of old.facts o) old.first (past_in new)) (sym b)
+          (subst (λ (es : List Event). IsLegalSo (basis_in old) old.first es) (sym p) n.legal)));
       stands =
-          subst (λ (f : Facts). Stands f (rows_before new) new.core) (sym a.same.facts)
-          (subst (λ (o : List Row). Stands old.facts o new.core) (sym b) n.stands);
+          subst (λ (f : Facts). Stands (basis_of f (rows_before new)) new.core) (sym a.same.facts)
+          (subst (λ (o : List Row). Stands (basis_of old.facts o) new.core) (sym b) n.stands);
       makers =
           subst (λ (l : List Event). MadeBy l new.makers) (sym a.log)
           (subst (λ (m : List ℕ). MadeBy (old.core.log ++ event ∷ []) m) (sym a.makers) (made-push old.core.log old.makers event client k.makers n.made));
@@ -69,9 +69,9 @@ house_log-after client event old new k a n =
     }
 
 -- An event that isn't a boot, and may come whatever the plans are.
-pub legal-next : (facts : Facts) (first : List Seen) (opening : List Row) (past : List Event) (event : Event) → IsLegalSo facts first opening past → BootTakes past event → IsAllowedSo facts first opening past event
-    → IsLegalSo facts first opening (event ∷ past)
-legal-next facts first opening past event l t a = (l.0, l.1, l.2, (l.3, t, a l.0 l.1 l.2))
+pub legal-next : (basis : Basis) (first : List Seen) (past : List Event) (event : Event) → IsLegalSo basis first past → BootTakes past event → IsAllowedSo basis first past event
+    → IsLegalSo basis first (event ∷ past)
+legal-next basis first past event l t a = (l.0, (l.1, t, a l.0))
 
 pub boots-same : (past : List Event) (event : Event) → is_boot event ≡ false → boots (event ∷ past) ≡ boots past
 boots-same past event h = rw h refl

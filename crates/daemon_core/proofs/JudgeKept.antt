@@ -1,5 +1,5 @@
 -- Judgements.
-use Rattle.std.proofs.Common.{◌≡◌, ℕ, ◌<◌, ◌≤◌, ◌+◌, ◌-◌, Bool, true, false, List, ◌∷◌, length, refl, ap, sym, ◌∙◌, subst, arith, ◌⊎◌, inl, inr}
+use Rattle.std.proofs.Common.{◌≡◌, ℕ, ◌<◌, ◌≤◌, ◌+◌, Bool, true, false, List, ◌∷◌, length, refl, ap, sym, ◌∙◌, subst, arith, ◌⊎◌, inl, inr}
 use Rattle.std.proofs.lemmas.List.{length-map}
 use Rattle.std.specs.Prelude.{Option, Some, None, if◌then◌else◌, ◌||◌, not, option_map}
 use Rattle.daemon_core.proofs.ClaimFinish.{any-row}
@@ -10,26 +10,26 @@ use Rattle.fw_facts.specs.declared.view.DeviceView.{DeviceView}
 use Rattle.outer_traits.specs.Faults.{Rose}
 use Rattle.history_keeper.specs.Changes.{Suits}
 use Rattle.history_keeper.specs.Histories.{is_unsettled}
+use Rattle.history_keeper.specs.Signs.{KeeperSigns}
 use Rattle.history_keeper.specs.declared.change.Change.{Change}
 use Rattle.history_keeper.specs.declared.row.Row.{Row}
 use Rattle.history_keeper.specs.declared.row.RowState.{RowState}
-use Rattle.update_log.specs.CoreSteps.{advance_on}
+use Rattle.core_state.specs.CoreSteps.{advance_on}
 use Rattle.update_log.specs.Holding.{is_live, live}
 use Rattle.update_log.specs.Known.{row_of, rows, views}
-use Rattle.update_log.specs.Legal.{JudgeAllowed, may_judge}
+use Rattle.update_log.specs.Legal.{may_judge}
 use Rattle.update_log.specs.Pasts.{boots, finished, time_of}
 use Rattle.update_log.specs.Steps.{judge, view_of_row}
 use Rattle.update_log.specs.declared.event.Event.{Event}
 use Rattle.update_log.specs.declared.event.Stored.{Stored}
-use Rattle.update_log.specs.declared.facts.Facts.{Facts}
 use Rattle.daemon_core.specs.HouseLog.{Appended, IsAllowedSo, IsHouseLog, Runs}
 use Rattle.daemon_core.specs.Commits.{StoredAs}
 use Rattle.daemon_core.specs.House.{IsHouse}
-use Rattle.daemon_core.specs.Housed.{HouseLogView, Housed, past, past_in, rows_before}
+use Rattle.daemon_core.specs.Housed.{basis_in, campaign_in, HouseLogView, Housed, past, past_in}
 use Rattle.daemon_core.specs.Judging.{judged_by, judged_on, must_wait, standing, standing_of}
 use Rattle.daemon_core.specs.Keeping.{HasRows, keeper_faults}
 use Rattle.daemon_core.specs.Owed.{owed}
-use Rattle.daemon_core.specs.Turns.{KeeperFared, Signs}
+use Rattle.daemon_core.specs.Turns.{KeeperFared}
 use Rattle.daemon_core.proofs.Fared.{calm-stored, counted-more, fared-quiet}
 use Rattle.daemon_core.specs.declared.judged.Standing.{Standing}
 use Rattle.daemon_core.proofs.HouseLogKept.{legal-next}
@@ -105,11 +105,10 @@ is-judged past views rows entry version state h = at-row (row_of rows entry) ref
 
 -- Such a judgement may come next.
 pub judge-allowed : (a : HouseLogView) (client entry : ℕ) (version : List ℕ) (state : RowState) (stored : Stored) → IsHouseLog a → standing_of a entry ≡ Some (Standing.Judged version state) → (stored ≡ Stored.Yes) ⊎ (stored ≡ Stored.Fault)
-    → IsAllowedSo a.facts a.first (rows_before a) (past_in a) (Event.Judge client entry version state stored)
+    → IsAllowedSo (basis_in a) a.first (past_in a) (Event.Judge client entry version state stored)
 judge-allowed a client entry version state stored k h s =
     let j = is-judged (past_in a) a.core.views a.core.rows entry version state h in
-    λ c f i.
-    subst (λ (x : Facts). (row : Row) × (view : DeviceView) × JudgeAllowed x (rows_before a) (past_in a) entry version state stored row view) (sym f) (
+    λ plans. (
       j.row,
       j.view,
       record {
@@ -125,9 +124,9 @@ judge-allowed a client entry version state stored k h s =
 
 -- It asks for the advance of its row.
 pub judge-asks : (a : HouseLogView) (client entry : ℕ) (version : List ℕ) (state : RowState) (stored : Stored) → IsHouseLog a
-    → AsksOnly a.facts (rows_before a) (past_in a) (Event.Judge client entry version state stored) (advance_on (time_of (past_in a)) a.core.rows entry state) stored
+    → AsksOnly (basis_in a) (past_in a) (Event.Judge client entry version state stored) (advance_on (time_of (past_in a)) a.core.rows entry state) stored
 judge-asks a client entry version state stored k =
-    subst (λ (rs : List Row). AsksOnly a.facts (rows_before a) (past_in a) (Event.Judge client entry version state stored) (advance_on (time_of (past_in a)) rs entry state) stored) (sym k.stands.rows)
+    subst (λ (rs : List Row). AsksOnly (basis_in a) (past_in a) (Event.Judge client entry version state stored) (advance_on (time_of (past_in a)) rs entry state) stored) (sym k.stands.rows)
     (record { no_boot = refl; told = λ n. refl; same_tells = λ n. refl; faulty = λ n. refl; same_live = refl; same_steps = refl; same_holds = refl; rows_are = refl; doubt_is = refl })
 
 -- The advance suits the rows.
@@ -141,8 +140,8 @@ judge-ready a client entry version state stored k r b room h s =
     let event : Event = Event.Judge client entry version state stored in
     let t = runs-takes a event r b refl in
     let w = judge-allowed a client entry version state stored k h s in
-    let l = legal-next a.facts a.first (rows_before a) (past_in a) event k.legal t w in
-    let less = adds-legal l.0 (rows_before a) (past_in a) event l.3 refl in
+    let l = legal-next (basis_in a) a.first (past_in a) event k.legal t w in
+    let less = adds-legal (campaign_in a l.0) (past_in a) event l.1 refl in
     record {
       takes = t;
       allowed = w;
@@ -150,14 +149,14 @@ judge-ready a client entry version state stored k r b room h s =
       row = (let e = ap length k.stands.rows in let m = same-many a entry state stored in omega (arith, e, m));
     }
   where
-    same-many : (a : HouseLogView) (entry : ℕ) (state : RowState) (stored : Stored) → length (rows a.facts (rows_before a) (Event.Judge client entry version state stored ∷ past_in a)) ≡ length (rows a.facts (rows_before a) (past_in a))
-    same-many a entry state Stored.Yes = length-map (rows a.facts (rows_before a) (past_in a)) _
+    same-many : (a : HouseLogView) (entry : ℕ) (state : RowState) (stored : Stored) → length (rows (basis_in a) (Event.Judge client entry version state stored ∷ past_in a)) ≡ length (rows (basis_in a) (past_in a))
+    same-many a entry state Stored.Yes = length-map (rows (basis_in a) (past_in a)) _
     same-many a entry state Stored.Fault = refl
     same-many a entry state Stored.NoMemory = refl
     same-many a entry state Stored.Unchanged = refl
 
 -- The keeper fared as the log tells.
-pub judge-fared : {K : Type 0} (signs : Signs K) (client entry : ℕ) (version : List ℕ) (state : RowState) (change : Change) (stored : Stored) (left : Option Change) (old new : Housed K) → past new ≡ Event.Judge client entry version state stored ∷ past old → StoredAs change stored (signs.tells old.keeper) (signs.tells new.keeper) left
+pub judge-fared : {K : Type 0} (signs : KeeperSigns K) (client entry : ℕ) (version : List ℕ) (state : RowState) (change : Change) (stored : Stored) (left : Option Change) (old new : Housed K) → past new ≡ Event.Judge client entry version state stored ∷ past old → StoredAs change stored (signs.tells old.keeper) (signs.tells new.keeper) left
     → (stored ≡ Stored.Fault → Rose (signs.faults old.keeper) (signs.faults new.keeper)) → (stored ≡ Stored.Fault) ⊎ (signs.faults new.keeper ≡ signs.faults old.keeper) → KeeperFared signs old new
 judge-fared signs client entry version state change Stored.Fault left old new p s r q = counted-more signs old new (ap keeper_faults p) (r refl) (stored-before signs.tells old.keeper new.keeper change Stored.Fault left s)
 judge-fared signs client entry version state change Stored.Yes left old new p s r q = fared-quiet signs old new (ap keeper_faults p) (calm-stored Stored.Yes refl q) (stored-before signs.tells old.keeper new.keeper change Stored.Yes left s)
@@ -172,9 +171,9 @@ done-stored change Stored.NoMemory old new left s n = absurd (n refl)
 done-stored change Stored.Unchanged old new left s n = absurd s
 
 -- The same over a house log that is equal to those that a call began with.
-pub clear-over : {K : Type 0} (told : K → List Row → Type 0) (doubted : K → Option Change) (h : Housed K) (b : HouseLogView) → h.house_log ≡ b → IsHouse told doubted h → IsHouseLog h.house_log → b.loaded ≡ true → Runs b → HasRows told doubted h.keeper h.house_log.core.rows None
-clear-over told doubted h b e k a l r =
-    house-clear told doubted h k a (subst (λ (x : HouseLogView). x.loaded ≡ true) (sym e) l) (subst Runs (sym e) r).on
+pub clear-over : {K : Type 0} (signs : KeeperSigns K) (h : Housed K) (b : HouseLogView) → h.house_log ≡ b → IsHouse signs h → IsHouseLog h.house_log → b.loaded ≡ true → Runs b → HasRows signs h.keeper h.house_log.core.rows None
+clear-over signs h b e k a l r =
+    house-clear signs h k a (subst (λ (x : HouseLogView). x.loaded ≡ true) (sym e) l) (subst Runs (sym e) r).on
 
 pub suits-over : (o : List Row → Type 0) (a b : HouseLogView) (entry : ℕ) (version : List ℕ) (state : RowState) (change : Change) → a ≡ b → ((all : List Row) → o all → all ≡ a.core.rows) → standing_of b entry ≡ Some (Standing.Judged version state) → change ≡ advance_on (time_of (past_in a)) a.core.rows entry state
     → (all : List Row) → o all → Suits change all
@@ -193,11 +192,11 @@ ready-over a b client entry version state stored e k r n room h s =
     (subst (λ (x : HouseLogView). standing_of x entry ≡ Some (Standing.Judged version state)) (sym e) h) s
 
 -- A house, after a judgement.
-pub house-judged : {K : Type 0} (told : K → List Row → Type 0) (doubted : K → Option Change) (client entry : ℕ) (version : List ℕ) (state : RowState) (stored : Stored) (change : Change) (old : Housed K) (b : HouseLogView) (new : HouseLogView) (keeper : K) → old.house_log ≡ b → IsHouse told doubted old → IsHouseLog old.house_log → IsHouseLog new
-    → Appended client (Event.Judge client entry version state stored) old.house_log new → b.loaded ≡ true → Runs b → change ≡ advance_on (time_of (past old)) old.house_log.core.rows entry state → StoredAs change stored (told old.keeper) (told keeper) (doubted keeper) → IsHouse told doubted (record old { house_log = new; keeper = keeper })
-house-judged told doubted client entry version state stored change old b new keeper e h o k a l r is s =
-    house-asked told doubted client (Event.Judge client entry version state stored) change stored old new keeper h o k a
+pub house-judged : {K : Type 0} (signs : KeeperSigns K) (client entry : ℕ) (version : List ℕ) (state : RowState) (stored : Stored) (change : Change) (old : Housed K) (b : HouseLogView) (new : HouseLogView) (keeper : K) → old.house_log ≡ b → IsHouse signs old → IsHouseLog old.house_log → IsHouseLog new
+    → Appended client (Event.Judge client entry version state stored) old.house_log new → b.loaded ≡ true → Runs b → change ≡ advance_on (time_of (past old)) old.house_log.core.rows entry state → StoredAs change stored (signs.tells old.keeper) (signs.tells keeper) (signs.doubt keeper) → IsHouse signs (record old { house_log = new; keeper = keeper })
+house-judged signs client entry version state stored change old b new keeper e h o k a l r is s =
+    house-asked signs client (Event.Judge client entry version state stored) change stored old new keeper h o k a
     (subst (λ (x : HouseLogView). x.loaded ≡ true) (sym e) l)
     (subst Runs (sym e) r).on
-    (subst (λ (x : Change). AsksOnly old.house_log.facts (rows_before old.house_log) (past old) (Event.Judge client entry version state stored) x stored) (sym is) (judge-asks old.house_log client entry version state stored o))
+    (subst (λ (x : Change). AsksOnly (basis_in old.house_log) (past old) (Event.Judge client entry version state stored) x stored) (sym is) (judge-asks old.house_log client entry version state stored o))
     s

@@ -21,6 +21,7 @@ pub mod BoardsUnwritten
 pub mod BootLegal
 pub mod BootOpenings
 pub mod BootPlaces
+pub mod OpeningKept
 pub mod BootHouseLog
 pub mod BootHouse
 pub mod Compared

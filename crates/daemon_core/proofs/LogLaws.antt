@@ -2,11 +2,9 @@
 use Rattle.std.proofs.Common.{◌≡◌, ℕ, ◌<◌, ◌≤◌, ◌+◌, Bool, true, false, List, [], ◌∷◌, refl, sym, ◌∙◌, subst, arith}
 use Rattle.std.proofs.lemmas.Bool.{leb-true, leb-false}
 use Rattle.std.specs.Prelude.{Option, Some, None, IfSome, MatchBool, nat_le}
-use Rattle.history_keeper.specs.declared.row.Row.{Row}
 use Rattle.update_log.proofs.Lists.{by_test}
-use Rattle.update_log.specs.CoreFolds.{AllFaults}
+use Rattle.update_log.specs.Pasts.{AllFaults, boots, counted, is_boot, is_counted, limit_after, limit_of, off, time_after}
 use Rattle.update_log.specs.Legal.{BelowLimit, IsLegal}
-use Rattle.update_log.specs.Pasts.{boots, counted, is_boot, is_counted, limit_after, limit_of, off, time_after}
 use Rattle.update_log.specs.Shows.{Campaign}
 use Rattle.update_log.specs.declared.event.Event.{Event}
 
@@ -28,15 +26,15 @@ one-over None n h = tt
 one-over (Some m) n h = omega arith
 
 -- No more events are counted than the limit allows.
-pub counted-within : (c : Campaign) (opening : List Row) (past : List Event) → IsLegal c opening past → IfSome (limit_of past) (λ m. counted past ≤ m)
-counted-within c opening [] l = tt
-counted-within c opening (event ∷ past) l =
+pub counted-within : (c : Campaign) (past : List Event) → IsLegal c past → IfSome (limit_of past) (λ m. counted past ≤ m)
+counted-within c [] l = tt
+counted-within c (event ∷ past) l =
     by_test (is_boot event) (IfSome (limit_of (event ∷ past)) (λ m. counted (event ∷ past) ≤ m))
     (λ t. rw t (none-over (limit_of (event ∷ past))))
     (λ f. rw (f, limit-same event (limit_of past) f)
     (by_test (is_counted event) _
     (λ t. rw t (one-over (limit_of past) (counted past) (l.1.below t)))
-    (λ n. rw n (counted-within c opening past l.0))))
+    (λ n. rw n (counted-within c past l.0))))
 
 -- Where the limit isn't above what was counted, it is that.
 pub limit-met : (o : Option ℕ) (n limit : ℕ) → IfSome o (λ m. n ≤ m) → o ≡ Some limit → limit ≤ n → o ≡ Some n

@@ -7,7 +7,6 @@ use Rattle.std.proofs.lemmas.Bool.{eqb-true}
 use Rattle.emulated_boards.specs.declared.fault.BoardFault.{BoardFault}
 use Rattle.emulated_boards.specs.declared.mark.Mark.{Mark}
 use Rattle.fw_facts.specs.declared.seen.Seen.{Seen}
-use Rattle.history_keeper.specs.declared.row.Row.{Row}
 use Rattle.history_keeper.specs.Histories.{IsHistory}
 use Rattle.update_log.proofs.Lists.{by_test, eqb-self, find-passes, filter-short}
 use Rattle.update_log.specs.Holding.{blocks_fetched, blocks_fetched_if, hold, holds, live, live_entry}
@@ -126,33 +125,33 @@ no-more : (n : ℕ) → n ≤ n + 0
 no-more n = omega arith
 
 -- what an event adds
-pub owed-adds : (c : Campaign) (opening : List Row) (past : List Event) (event : Event) → BootTakes past event → Allowed c opening past event → spends event ≡ false → owed (event ∷ past) ≤ owed past + adds event
-owed-adds c opening past (Event.Boot number time limit found boards) b a s =
+pub owed-adds : (c : Campaign) (past : List Event) (event : Event) → BootTakes past event → Allowed c past event → spends event ≡ false → owed (event ∷ past) ≤ owed past + adds event
+owed-adds c past (Event.Boot number time limit found boards) b a s =
     let w = owed-within (Event.Boot number time limit found boards ∷ past) in
     let none : owed_by false (Event.Boot number time limit found boards ∷ past) ≡ 0 = refl in omega (arith, w, none)
-owed-adds c opening past (Event.Ask client request pending (AskAnswer.Hold blocks release)) b a s =
+owed-adds c past (Event.Ask client request pending (AskAnswer.Hold blocks release)) b a s =
     let event : Event = Event.Ask client request pending (AskAnswer.Hold blocks release) in
     let few = fewer client (holds past) in
     let pushed = length_push (filter (λ (h : Held). not (h.client == client)) (holds past)) (record { client = client; request = request; pending = pending; blocks = blocks; release = release }) in
     on-adds past (Event.Ask client request pending (AskAnswer.Hold blocks release)) 2 (b.on refl)
     (owed-more past event 1 0 (omega (arith, few, pushed)) (no-more (sum_by (entry_on past) (live past))))
-owed-adds c opening past (Event.Claim client request fetched (ClaimAnswer.Entry entry)) b a s =
+owed-adds c past (Event.Claim client request fetched (ClaimAnswer.Entry entry)) b a s =
     owed-taken past (Event.Claim client request fetched (ClaimAnswer.Entry entry)) (record { client = client; entry = entry; blocks = blocks_fetched fetched }) (b.on refl) (fewer client (holds past)) refl (λ e. refl)
-owed-adds c opening past (Event.Claim client request fetched (ClaimAnswer.Kept entry state)) b a s =
+owed-adds c past (Event.Claim client request fetched (ClaimAnswer.Kept entry state)) b a s =
     owed-quiet past (Event.Claim client request fetched (ClaimAnswer.Kept entry state)) (b.on refl) (fewer client (holds past)) refl (λ e. refl)
-owed-adds c opening past (Event.Claim client request fetched (ClaimAnswer.Refused refusal)) b a s =
+owed-adds c past (Event.Claim client request fetched (ClaimAnswer.Refused refusal)) b a s =
     owed-quiet past (Event.Claim client request fetched (ClaimAnswer.Refused refusal)) (b.on refl) (fewer client (holds past)) refl (λ e. refl)
-owed-adds c opening past (Event.Resume client entry fetched ResumeAnswer.Begun stored) b a s =
+owed-adds c past (Event.Resume client entry fetched ResumeAnswer.Begun stored) b a s =
     owed-taken past (Event.Resume client entry fetched ResumeAnswer.Begun stored) (record { client = client; entry = entry; blocks = blocks_fetched_if fetched }) (b.on refl) (fewer client (holds past)) refl (λ e. refl)
-owed-adds c opening past (Event.Resume client entry fetched (ResumeAnswer.Refused refusal) stored) b a s =
+owed-adds c past (Event.Resume client entry fetched (ResumeAnswer.Refused refusal) stored) b a s =
     owed-quiet past (Event.Resume client entry fetched (ResumeAnswer.Refused refusal) stored) (b.on refl) (fewer client (holds past)) refl (λ e. refl)
-owed-adds c opening past Event.Cut b a s =
+owed-adds c past Event.Cut b a s =
     owed-quiet past Event.Cut a.on (le_refl (length (holds past))) refl (λ e. refl)
-owed-adds c opening past (Event.Start client entry op) b a s = cc
-owed-adds c opening past (Event.End client entry op outcome told seen) b a s = cc
-owed-adds c opening past (Event.Finish client entry state stored) b a s = cc
-owed-adds c opening past (Event.GiveBack client what) b a s = cc
-owed-adds c opening past event b a s = owed-quiet past event (b.on refl) (le_refl (length (holds past))) refl (λ e. refl)
+owed-adds c past (Event.Start client entry op) b a s = cc
+owed-adds c past (Event.End client entry op outcome told seen) b a s = cc
+owed-adds c past (Event.Finish client entry state stored) b a s = cc
+owed-adds c past (Event.GiveBack client what) b a s = cc
+owed-adds c past event b a s = owed-quiet past event (b.on refl) (le_refl (length (holds past))) refl (λ e. refl)
 
 strokes-more : (past : List Event) (client entry : ℕ) (op : Op) (e : ℕ) → length (strokes e past) ≤ length (strokes e (Event.Start client entry op ∷ past))
 strokes-more past client entry op e = by_test (entry == e) _ (λ t. rw t (omega arith)) (λ t. rw t (omega arith))
@@ -208,35 +207,35 @@ gone-off past event entry l found few lives =
     off-parts past event (omega (arith, few, sum))
 
 -- an event that takes from the room leaves one less to owe
-pub owed-spends : (c : Campaign) (opening : List Row) (past : List Event) (event : Event) → FewStrokes (event ∷ past) → IsLegal c opening past → BootTakes past event → Allowed c opening past event → spends event ≡ true → owed (event ∷ past) + 1 ≤ owed past
-owed-spends c opening past (Event.Start client entry op) g k b a s =
+pub owed-spends : (c : Campaign) (past : List Event) (event : Event) → FewStrokes (event ∷ past) → IsLegal c past → BootTakes past event → Allowed c past event → spends event ≡ true → owed (event ∷ past) + 1 ≤ owed past
+owed-spends c past (Event.Start client entry op) g k b a s =
     let started = a.1 in
     on-step past (Event.Start client entry op) 1 (b.on refl)
     (owed-start past (Event.Start client entry op) entry a.0 g refl refl started.live (strokes-more past client entry op) (rw (eqb-self entry) (omega arith)))
-owed-spends c opening past (Event.End client entry op outcome told seen) g k b a s =
-    let l = open-entry_live c opening past entry (record { client = client; entry = entry; op = op }) k (b.on refl) a.open_is in
+owed-spends c past (Event.End client entry op outcome told seen) g k b a s =
+    let l = open-entry_live c past entry (record { client = client; entry = entry; op = op }) k (b.on refl) a.open_is in
     on-step past (Event.End client entry op outcome told seen) 1 (b.on refl)
     (owed-start past (Event.End client entry op outcome told seen) entry l.0 g refl refl l.1 (strokes-ended past client entry op outcome told seen) (rw (eqb-self entry) (omega arith)))
-owed-spends c opening past (Event.Finish client entry state stored) g k b a s =
+owed-spends c past (Event.Finish client entry state stored) g k b a s =
     let finished = a.2 in
     on-step past (Event.Finish client entry state stored) 1 (b.on refl)
     (gone-on past (Event.Finish client entry state stored) entry a.0 finished.live (le_refl (length (holds past))) refl (λ e. refl))
-owed-spends c opening past (Event.GiveBack client (Back.Tag tag)) g k b a s =
+owed-spends c past (Event.GiveBack client (Back.Tag tag)) g k b a s =
     back-hold past (Event.GiveBack client (Back.Tag tag)) client a.0 a.1 refl refl refl (λ e. refl)
-owed-spends c opening past (Event.GiveBack client (Back.Pending entry)) g k b a s =
+owed-spends c past (Event.GiveBack client (Back.Pending entry)) g k b a s =
     back-hold past (Event.GiveBack client (Back.Pending entry)) client a.0 a.1 refl refl refl (λ e. refl)
-owed-spends c opening past (Event.GiveBack client (Back.Entry entry)) g k b a s =
+owed-spends c past (Event.GiveBack client (Back.Entry entry)) g k b a s =
     back-less past (Event.GiveBack client (Back.Entry entry)) refl
     (gone-on past (Event.GiveBack client (Back.Entry entry)) entry a.0 a.1 (fewer client (holds past)) refl (λ e. refl))
     (gone-off past (Event.GiveBack client (Back.Entry entry)) entry a.0 a.1 (fewer client (holds past)) refl)
-owed-spends c opening past _ g k b a s = cc
+owed-spends c past _ g k b a s = cc
 
 pub owed-cut_live : (past : List Event) (entry : ℕ) (l : LiveEntry) → off past ≡ false → live_entry past entry ≡ Some l → owed (Event.Cut ∷ past) + 1 ≤ owed past
 owed-cut_live past entry l o e = let less = off-less_live past entry l e in let q = owed-when_on past o in omega (arith, less, q)
 
 -- Both, over a legal log.
-pub adds-legal : (c : Campaign) (opening : List Row) (past : List Event) (event : Event) → IsLegal c opening (event ∷ past) → spends event ≡ false → owed (event ∷ past) ≤ owed past + adds event
-adds-legal c opening past event l s = owed-adds c opening past event l.1 l.2 s
+pub adds-legal : (c : Campaign) (past : List Event) (event : Event) → IsLegal c (event ∷ past) → spends event ≡ false → owed (event ∷ past) ≤ owed past + adds event
+adds-legal c past event l s = owed-adds c past event l.1 l.2 s
 
-pub spends-legal : (c : Campaign) (opening : List Row) (past : List Event) (event : Event) → IsHistory opening → IsLegal c opening (event ∷ past) → spends event ≡ true → owed (event ∷ past) + 1 ≤ owed past
-spends-legal c opening past event v l s = owed-spends c opening past event (few-strokes c opening (event ∷ past) v l) l.0 l.1 l.2 s
+pub spends-legal : (c : Campaign) (past : List Event) (event : Event) → IsHistory c.basis.opening → IsLegal c (event ∷ past) → spends event ≡ true → owed (event ∷ past) + 1 ≤ owed past
+spends-legal c past event v l s = owed-spends c past event (few-strokes c (event ∷ past) v l) l.0 l.1 l.2 s

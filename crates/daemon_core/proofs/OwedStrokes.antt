@@ -1,6 +1,5 @@
 -- An entry has at most twelve strokes: op-six steps start and end.
 use Rattle.std.proofs.Common.{◌≡◌, ℕ, List, [], ◌∷◌, ◌≤◌, ◌+◌, ◌*◌, arith, length}
-use Rattle.history_keeper.specs.declared.row.Row.{Row}
 use Rattle.history_keeper.specs.Histories.{IsHistory}
 use Rattle.update_log.proofs.LegalOnce.{past-kept}
 use Rattle.update_log.proofs.StepsFew.{op-six}
@@ -36,7 +35,7 @@ twelve (Stroke.Ended op ∷ rest) b = omega (arith, b, op-six op)
 abbrev pub FewStrokes : List Event → Type 0
 FewStrokes past = (entry : ℕ) → length (strokes entry past) ≤ 12
 
-pub few-strokes : (c : Campaign) (opening : List Row) (past : List Event) → IsHistory opening → IsLegal c opening past → FewStrokes past
-few-strokes c opening past v l =
-    let k = past-kept c opening past v l in
+pub few-strokes : (c : Campaign) (past : List Event) → IsHistory c.basis.opening → IsLegal c past → FewStrokes past
+few-strokes c past v l =
+    let k = past-kept c past v l in
     λ entry. twelve (strokes entry past) (below (strokes entry past) (k.steps.order entry))

@@ -4,16 +4,14 @@ use Rattle.std.specs.Prelude.{Option, Some, None, IsSome, slice_get, option_and_
 use Rattle.std.specs.List.{list_any}
 use Rattle.emulated_boards.specs.Boards.{BoardState}
 use Rattle.fw_facts.specs.declared.seen.Seen.{Seen}
-use Rattle.history_keeper.specs.declared.change.Change.{Change}
-use Rattle.history_keeper.specs.declared.row.Row.{Row}
+use Rattle.history_keeper.specs.Signs.{KeeperSigns}
 use Rattle.update_log.specs.Holding.{live}
-use Rattle.update_log.specs.Known.{is_board_of, rows}
+use Rattle.update_log.specs.Known.{Basis, is_board_of, rows}
 use Rattle.update_log.specs.declared.event.Event.{Event}
-use Rattle.update_log.specs.declared.facts.Facts.{Facts}
 use Rattle.update_log.specs.declared.live.LiveEntry.{LiveEntry}
 use Rattle.daemon_core.specs.Boards.{BoardIsHome, is_out}
 use Rattle.daemon_core.specs.House.{IsHouse}
-use Rattle.daemon_core.specs.Housed.{Housed, Place, past, rows_before}
+use Rattle.daemon_core.specs.Housed.{basis_in, Housed, Place, past}
 use Rattle.daemon_core.specs.Parts.{AllHome, BoardsOf, IsBoardOf, boards_in, boards_with}
 
 -- There are as many boards as places, in the same order.
@@ -39,24 +37,24 @@ boards-get (p ∷ ps) zero h = get-zero p.board (boards_in ps) h.0
 boards-get (p ∷ ps) (suc n) h = get-suc p.board (boards_in ps) n h.0 ∙ boards-get ps n h.1
 
 -- Where no entry is live, each board is at home.
-none-out : (facts : Facts) (opening : List Row) (past : List Event) (number : ℕ) → live past ≡ [] → is_out facts opening past number ≡ false
-none-out facts opening past number e = ap (λ (ls : List LiveEntry). list_any (λ l. is_board_of facts (rows facts opening past) l.entry number) ls) e
+none-out : (basis : Basis) (past : List Event) (number : ℕ) → live past ≡ [] → is_out basis past number ≡ false
+none-out basis past number e = ap (λ (ls : List LiveEntry). list_any (λ l. is_board_of basis.facts (rows basis past) l.entry number) ls) e
 
-home-there : (facts : Facts) (first : List Seen) (opening : List Row) (past : List Event) (number : ℕ) (o : Option BoardState) → live past ≡ [] → BoardIsHome facts first opening past number o → IsSome o
-home-there facts first opening past number None e h = let bad : true ≡ false = sym h ∙ none-out facts opening past number e in cc
-home-there facts first opening past number (Some b) e h = refl
+home-there : (basis : Basis) (first : List Seen) (past : List Event) (number : ℕ) (o : Option BoardState) → live past ≡ [] → BoardIsHome basis first past number o → IsSome o
+home-there basis first past number None e h = let bad : true ≡ false = sym h ∙ none-out basis past number e in cc
+home-there basis first past number (Some b) e h = refl
 
 all-home : (places : List Place) → ((n : ℕ) (p : Place) → slice_get places n ≡ Some p → IsSome p.board) → AllHome places
 all-home [] h = tt
 all-home (p ∷ ps) h = (h 0 p refl, all-home ps (λ n q e. h (suc n) q e))
 
-pub house-home : {K : Type 0} (told : K → List Row → Type 0) (doubted : K → Option Change) (h : Housed K) → IsHouse told doubted h → live (past h) ≡ [] → AllHome h.places
-house-home told doubted h w e =
-    all-home h.places (λ n p g. home-there h.house_log.facts h.house_log.first (rows_before h.house_log) (past h) n p.board e (w.places n p g).home)
+pub house-home : {K : Type 0} (signs : KeeperSigns K) (h : Housed K) → IsHouse signs h → live (past h) ≡ [] → AllHome h.places
+house-home signs h w e =
+    all-home h.places (λ n p g. home-there (basis_in h.house_log) h.house_log.first (past h) n p.board e (w.places n p g).home)
 
-pub house-boards : {K : Type 0} (told : K → List Row → Type 0) (doubted : K → Option Change) (h : Housed K) → IsHouse told doubted h → live (past h) ≡ [] → BoardsOf h (boards_in h.places)
-house-boards told doubted h w e =
-    let all = house-home told doubted h w e in
+pub house-boards : {K : Type 0} (signs : KeeperSigns K) (h : Housed K) → IsHouse signs h → live (past h) ≡ [] → BoardsOf h (boards_in h.places)
+house-boards signs h w e =
+    let all = house-home signs h w e in
     record {
       count = boards-length h.places all ∙ w.count;
       each = λ n b g. at n b (slice_get h.places n) refl (sym (boards-get h.places n all) ∙ g);
@@ -66,7 +64,7 @@ house-boards told doubted h w e =
     own n b p f None q g = cc
     own n b p f (Some x) q g =
         let s : x ≡ b = cc in
-        let home : BoardIsHome h.house_log.facts h.house_log.first (rows_before h.house_log) (past h) n (Some x) = subst (BoardIsHome h.house_log.facts h.house_log.first (rows_before h.house_log) (past h) n) q (w.places n p f).home in
+        let home : BoardIsHome (basis_in h.house_log) h.house_log.first (past h) n (Some x) = subst (BoardIsHome (basis_in h.house_log) h.house_log.first (past h) n) q (w.places n p f).home in
         subst (λ (y : BoardState). IsBoardOf h n y) s (record { place = p; place_is = f; board_is = q; tail = home.1.0; stands = home.1.1 })
 
     at : (n : ℕ) (b : BoardState) (o : Option Place) → slice_get h.places n ≡ o → option_and_then (λ (p : Place). p.board) o ≡ Some b → IsBoardOf h n b

@@ -10,13 +10,12 @@ use Rattle.device_list.specs.declared.selector.Selector.{Selector}
 use Rattle.fw_facts.specs.Views.{guids_of}
 use Rattle.fw_facts.specs.declared.release.Release.{Release}
 use Rattle.fw_facts.specs.declared.view.DeviceView.{DeviceView}
-use Rattle.history_keeper.specs.declared.row.Row.{Row}
 use Rattle.release_catalogue.specs.Lookup.{Chosen, chosen}
 use Rattle.release_catalogue.specs.declared.reference.ReleaseRef.{ReleaseRef}
 use Rattle.update_log.proofs.Accepts.{accepts-target, found-passes}
 use Rattle.update_log.proofs.Lists.{map-none}
 use Rattle.update_log.proofs.Openings.{bytes-same, bytes-self}
-use Rattle.update_log.specs.Known.{Target, target, target_at, target_of, views}
+use Rattle.update_log.specs.Known.{Basis, Target, target, target_at, target_of, views}
 use Rattle.update_log.specs.Legal.{is_fetched}
 use Rattle.update_log.specs.Verdicts.{Case, case_of, is_release, verdict}
 use Rattle.update_log.specs.declared.decision.Stage.{Stage}
@@ -52,31 +51,31 @@ target-device facts all request device t h d = at (place request.device all) ref
     at (Some n) p g = at-view n (slice_get all n) p refl g
 
 -- What there is where a resumption is accepted.
-pub record Resumable (facts : Facts) (opening : List Row) (past : List Event) (request : Request) (release : ReleaseRef) (t : Target) : Type 0 where
-  pub found : target facts (views facts opening past) request ≡ Some t
+pub record Resumable (basis : Basis) (past : List Event) (request : Request) (release : ReleaseRef) (t : Target) : Type 0 where
+  pub found : target basis.facts (views basis past) request ≡ Some t
   pub that : is_release release t.chosen.at ≡ true
   pub unclaimed : t.view.claim ≡ None
 
-pub resumable : (facts : Facts) (opening : List Row) (past : List Event) (entry : ℕ) (request : Request) (release : ReleaseRef) → IsAccept (verdict facts opening past 0 request (Stage.Resume entry release)) → (t : Target) × Resumable facts opening past request release t
-resumable facts opening past entry request release a =
-    let c : Case = case_of facts opening past 0 request (Stage.Resume entry release) in
+pub resumable : (basis : Basis) (past : List Event) (entry : ℕ) (request : Request) (release : ReleaseRef) → IsAccept (verdict basis past 0 request (Stage.Resume entry release)) → (t : Target) × Resumable basis past request release t
+resumable basis past entry request release a =
+    let c : Case = case_of basis past 0 request (Stage.Resume entry release) in
     let h = accepts-target c a.0 a.2 a.1 a.3 in
     let t : Target = h.0 in
     (t, record { found = h.1.found; that = (and_parts (is_release release t.chosen.at) _ h.1.that).0; unclaimed = map-none (λ entry. Refusal.Busy entry) t.view.claim h.1.none.is_busy })
 
 -- A whole payload is that of the release that was found.
-pub whole-resumed : (facts : Facts) (opening : List Row) (past : List Event) (request : Request) (release : ReleaseRef) (t : Target) (payload : SealedBytes) → Resumable facts opening past request release t → IsPayloadOf facts release payload → is_fetched (whole_note payload) (target facts (views facts opening past) request) ≡ true
-whole-resumed facts opening past request release t payload k p =
-    let there : IsReleaseAt facts.catalogue release t.chosen.release = release-there facts.catalogue release t.chosen.at t.chosen.release k.that (target-placed facts (views facts opening past) request t k.found) in
-    let same : p.release ≡ t.chosen.release = release-same facts.catalogue release p.release t.chosen.release p.there there in
+pub whole-resumed : (basis : Basis) (past : List Event) (request : Request) (release : ReleaseRef) (t : Target) (payload : SealedBytes) → Resumable basis past request release t → IsPayloadOf basis.facts release payload → is_fetched (whole_note payload) (target basis.facts (views basis past) request) ≡ true
+whole-resumed basis past request release t payload k p =
+    let there : IsReleaseAt basis.facts.catalogue release t.chosen.release = release-there basis.facts.catalogue release t.chosen.at t.chosen.release k.that (target-placed basis.facts (views basis past) request t k.found) in
+    let same : p.release ≡ t.chosen.release = release-same basis.facts.catalogue release p.release t.chosen.release p.there there in
     let digest : bytes_eq payload.digest t.chosen.release.digest ≡ true = ap (λ (d : List ℕ). bytes_eq d t.chosen.release.digest) (p.digest_is ∙ ap (λ (r : Release). r.digest) same) ∙ bytes-self t.chosen.release.digest in
     let size : (length payload.bytes == t.chosen.release.size) ≡ true = eq-eqb (length payload.bytes) t.chosen.release.size (p.size_is ∙ ap (λ (r : Release). r.size) same) in
     rw (k.found, digest, size) refl
 
 -- The board of its device is home.
-pub resumed-home : (facts : Facts) (opening : List Row) (past : List Event) (request : Request) (release : ReleaseRef) (t : Target) (device : List ℕ) → Resumable facts opening past request release t → request.device ≡ Selector.Id device → (number : ℕ) × DeviceHome facts opening past device number
-resumed-home facts opening past request release t device k d =
-    let same : t.view.sheet.device ≡ device = target-device facts (views facts opening past) request device t k.found d in
-    let v = target-seen facts (views facts opening past) request t k.found in
-    let h = view-home facts opening past v.0 t.view v.1 k.unclaimed in
-    (h.0, subst (λ (x : List ℕ). DeviceHome facts opening past x h.0) same h.1)
+pub resumed-home : (basis : Basis) (past : List Event) (request : Request) (release : ReleaseRef) (t : Target) (device : List ℕ) → Resumable basis past request release t → request.device ≡ Selector.Id device → (number : ℕ) × DeviceHome basis past device number
+resumed-home basis past request release t device k d =
+    let same : t.view.sheet.device ≡ device = target-device basis.facts (views basis past) request device t k.found d in
+    let v = target-seen basis.facts (views basis past) request t k.found in
+    let h = view-home basis past v.0 t.view v.1 k.unclaimed in
+    (h.0, subst (λ (x : List ℕ). DeviceHome basis past x h.0) same h.1)

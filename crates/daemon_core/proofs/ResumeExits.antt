@@ -5,6 +5,7 @@ use Rattle.history_keeper.specs.Keepers.{StillTold}
 use Rattle.block_pool.specs.Views.{PoolCounts, SealedBytes}
 use Rattle.emulated_boards.specs.Boards.{BoardState}
 use Rattle.history_keeper.specs.Changes.{Suits}
+use Rattle.history_keeper.specs.Signs.{KeeperSigns}
 use Rattle.history_keeper.specs.declared.change.Change.{Change}
 use Rattle.history_keeper.specs.declared.row.Row.{Row}
 use Rattle.outer_traits.specs.Faults.{Rose}
@@ -37,12 +38,12 @@ use Rattle.daemon_core.specs.Claims.{RoomierBoard, RoomierPlaces, place_given, p
 use Rattle.daemon_core.specs.Commits.{StoredAs}
 use Rattle.daemon_core.specs.Fetches.{block_count, is_payload, note_of, whole_note}
 use Rattle.daemon_core.specs.House.{IsHouse}
-use Rattle.daemon_core.specs.Housed.{HouseLogView, Housed, Place, past, past_in, rows_before}
+use Rattle.daemon_core.specs.Housed.{basis_in, HouseLogView, Housed, Place, past, past_in}
 use Rattle.daemon_core.specs.Keeping.{keeper_faults}
 use Rattle.daemon_core.specs.PutOff.{IsAccept}
 use Rattle.daemon_core.specs.Resumes.{ComesIn, IsOpenHold, IsPutOff, IsToResume, MayFail, MayResume, ResumeGave, ResumeTurned, StoppedBy, WasRefused, begun_event, blocks_in, doubt_event, failed_event, note_in, resume_verdict}
 use Rattle.daemon_core.specs.Returns.{place_at}
-use Rattle.daemon_core.specs.Turns.{KeeperFared, Signs, ToldBefore}
+use Rattle.daemon_core.specs.Turns.{KeeperFared, ToldBefore}
 use Rattle.daemon_core.proofs.Fared.{calm-stored, counted-more, fared-quiet}
 use Rattle.daemon_core.proofs.HouseLogKept.{appended-past}
 use Rattle.daemon_core.proofs.Answered.{roomier-same, same-unchanged, stopped, unchanged-appended}
@@ -122,11 +123,11 @@ pub record Failing (a : HouseLogView) (entry : ℕ) (held : Option (Ticket × Fe
 pub failing : (a b : HouseLogView) (entry : ℕ) (held : Option (Ticket × Fetched)) (refusal : Refusal) → a ≡ b → MayResume b entry → MayFail b entry held refusal → Failing a entry held refusal
 failing a b entry held refusal e m f = subst (λ (x : HouseLogView). Failing x entry held refusal) (sym e) (record { may = m; fails = f })
 
-pub fail-clear : {K : Type 0} (told : K → List Row → Type 0) (doubted : K → Option Change) (entry : ℕ) (h : Housed K) → IsHouse told doubted h → IsHouseLog h.house_log → MayResume h.house_log entry → doubted h.keeper ≡ None
-fail-clear told doubted entry h w k m = (house-clear told doubted h w k m.loaded m.runs.on).doubt_is
+pub fail-clear : {K : Type 0} (signs : KeeperSigns K) (entry : ℕ) (h : Housed K) → IsHouse signs h → IsHouseLog h.house_log → MayResume h.house_log entry → signs.doubt h.keeper ≡ None
+fail-clear signs entry h w k m = (house-clear signs h w k m.loaded m.runs.on).doubt_is
 
-pub fail-suits : {K : Type 0} (told : K → List Row → Type 0) (doubted : K → Option Change) (entry : ℕ) (answer : ResumeAnswer) (change : Change) (h : Housed K) → IsHouse told doubted h → IsHouseLog h.house_log → MayResume h.house_log entry → change ≡ change_of h.house_log entry answer → (all : List Row) → told h.keeper all → Suits change all
-fail-suits told doubted entry answer change h w k m e = subst (λ (c : Change). (all : List Row) → told h.keeper all → Suits c all) (sym e) (resume-suits told doubted entry answer h w k m)
+pub fail-suits : {K : Type 0} (signs : KeeperSigns K) (entry : ℕ) (answer : ResumeAnswer) (change : Change) (h : Housed K) → IsHouse signs h → IsHouseLog h.house_log → MayResume h.house_log entry → change ≡ change_of h.house_log entry answer → (all : List Row) → signs.tells h.keeper all → Suits change all
+fail-suits signs entry answer change h w k m e = subst (λ (c : Change). (all : List Row) → signs.tells h.keeper all → Suits c all) (sym e) (resume-suits signs entry answer h w k m)
 
 pub fail-ready : (a : HouseLogView) (entry : ℕ) (held : Option (Ticket × Fetched)) (said : Option FetchNote) (refusal : Refusal) (stored : Stored) (event : Event) → IsHouseLog a → Failing a entry held refusal → (stored ≡ Stored.Yes) ⊎ (stored ≡ Stored.Fault) → said ≡ note_in held → event ≡ failed_event entry said refusal stored → IsReady a event
 fail-ready a entry held said refusal stored event k f s n e =
@@ -136,16 +137,16 @@ fail-ready a entry held said refusal stored event k f s n e =
 fail-appended : (a new : HouseLogView) (entry : ℕ) (held : Option (Ticket × Fetched)) (said : Option FetchNote) (refusal : Refusal) (stored : Stored) (event : Event) → said ≡ note_in held → event ≡ failed_event entry said refusal stored → Appended 0 event a new → Appended 0 (resumes entry (note_in held) (ResumeAnswer.Refused refusal) stored) a new
 fail-appended a new entry held said refusal stored event n e p = subst (λ (x : Event). Appended 0 x a new) (e ∙ ap (λ (x : Option FetchNote). failed_event entry x refusal stored) n) p
 
-pub fail-fits : {K : Type 0} (told : K → List Row → Type 0) (doubted : K → Option Change) (entry : ℕ) (held : Option (Ticket × Fetched)) (refusal : Refusal) (h : Housed K) → IsHouse told doubted h → IsHouseLog h.house_log → Failing h.house_log entry held refusal → h.pool.free + blocks_in held ≤ h.pool.capacity
-fail-fits told doubted entry held refusal h w k f = refused-fits told doubted held h w k f.fails.hold_is
+pub fail-fits : {K : Type 0} (signs : KeeperSigns K) (entry : ℕ) (held : Option (Ticket × Fetched)) (refusal : Refusal) (h : Housed K) → IsHouse signs h → IsHouseLog h.house_log → Failing h.house_log entry held refusal → h.pool.free + blocks_in held ≤ h.pool.capacity
+fail-fits signs entry held refusal h w k f = refused-fits signs held h w k f.fails.hold_is
 
-pub house-failed : {K : Type 0} (told : K → List Row → Type 0) (doubted : K → Option Change) (entry : ℕ) (held : Option (Ticket × Fetched)) (said : Option FetchNote) (refusal : Refusal) (stored : Stored) (change : Change) (event : Event) (h : Housed K) (new : HouseLogView) (pool : PoolCounts) (keeper : K) → IsHouse told doubted h → IsHouseLog h.house_log → IsHouseLog new → Failing h.house_log entry held refusal
-    → said ≡ note_in held → event ≡ failed_event entry said refusal stored → Appended 0 event h.house_log new → change ≡ change_of h.house_log entry (ResumeAnswer.Refused refusal) → StoredAs change stored (told h.keeper) (told keeper) (doubted keeper)
-    → pool.capacity ≡ h.pool.capacity → pool.free ≡ h.pool.free + blocks_in held → IsHouse told doubted (record { house_log = new; places = h.places; pool = pool; keeper = keeper })
-house-failed told doubted entry held said refusal stored change event h new pool keeper w k k' f n e p c s cap free =
-    house-refused told doubted entry held (note_in held) refusal stored h new pool keeper w k k'
+pub house-failed : {K : Type 0} (signs : KeeperSigns K) (entry : ℕ) (held : Option (Ticket × Fetched)) (said : Option FetchNote) (refusal : Refusal) (stored : Stored) (change : Change) (event : Event) (h : Housed K) (new : HouseLogView) (pool : PoolCounts) (keeper : K) → IsHouse signs h → IsHouseLog h.house_log → IsHouseLog new → Failing h.house_log entry held refusal
+    → said ≡ note_in held → event ≡ failed_event entry said refusal stored → Appended 0 event h.house_log new → change ≡ change_of h.house_log entry (ResumeAnswer.Refused refusal) → StoredAs change stored (signs.tells h.keeper) (signs.tells keeper) (signs.doubt keeper)
+    → pool.capacity ≡ h.pool.capacity → pool.free ≡ h.pool.free + blocks_in held → IsHouse signs (record { house_log = new; places = h.places; pool = pool; keeper = keeper })
+house-failed signs entry held said refusal stored change event h new pool keeper w k k' f n e p c s cap free =
+    house-refused signs entry held (note_in held) refusal stored h new pool keeper w k k'
     (fail-appended h.house_log new entry held said refusal stored event n e p) f.may f.fails.hold_is
-    (subst (λ (x : Change). StoredAs x stored (told h.keeper) (told keeper) (doubted keeper)) c s) cap free
+    (subst (λ (x : Change). StoredAs x stored (signs.tells h.keeper) (signs.tells keeper) (signs.doubt keeper)) c s) cap free
 
 pub turn-failed : (a b new : HouseLogView) (entry : ℕ) (held : Option (Ticket × Fetched)) (said : Option FetchNote) (refusal : Refusal) (stored : Stored) (event : Event) → a ≡ b → Failing a entry held refusal → (stored ≡ Stored.Yes) ⊎ (stored ≡ Stored.Fault) → said ≡ note_in held → event ≡ failed_event entry said refusal stored → Appended 0 event a new
     → ResumeTurned entry (note_in held) (Ok (Claimed.Refused refusal)) b new
@@ -154,8 +155,8 @@ turn-failed a b new entry held said refusal stored event same f s n e p =
     (f.may.runs, (stored, stored-other refusal stored f.fails.other s, fail-appended a new entry held said refusal stored event n e p))
 
 -- Where the keeper wanted memory, nothing changed.
-pub house-left : {K : Type 0} (told : K → List Row → Type 0) (doubted : K → Option Change) (entry : ℕ) (h : Housed K) (keeper : K) → IsHouse told doubted h → IsHouseLog h.house_log → MayResume h.house_log entry → StillTold (told h.keeper) (told keeper) × (doubted keeper ≡ None) → IsHouse told doubted (record h { keeper = keeper })
-house-left told doubted entry h keeper w k m c = house-unstored told doubted h h.house_log keeper refl w k m.loaded m.runs.on c
+pub house-left : {K : Type 0} (signs : KeeperSigns K) (entry : ℕ) (h : Housed K) (keeper : K) → IsHouse signs h → IsHouseLog h.house_log → MayResume h.house_log entry → StillTold (signs.tells h.keeper) (signs.tells keeper) × (signs.doubt keeper ≡ None) → IsHouse signs (record h { keeper = keeper })
+house-left signs entry h keeper w k m c = house-unstored signs h h.house_log keeper refl w k m.loaded m.runs.on c
 
 pub left-as : (change : Change) (stored : Stored) (old new : List Row → Type 0) (left : Option Change) → stored ≡ Stored.NoMemory → StoredAs change stored old new left → StillTold old new × (left ≡ None)
 left-as change stored old new left e s = subst (λ (x : Stored). StoredAs change x old new left) e s
@@ -167,7 +168,7 @@ turn-left a b entry said held e m = (m.runs.on, same-unchanged b a e)
 pub other-met : (refusal : Refusal) (stored : Stored) → is_keeper_fault refusal ≡ false → (is_keeper_fault refusal || is_fault stored) ≡ is_fault stored
 other-met refusal stored f = rw f refl
 
-pub faults-resumed : {K : Type 0} (signs : Signs K) (entry : ℕ) (said : Option FetchNote) (answer : ResumeAnswer) (stored : Stored) (event : Event) (old new : Housed K) → event ≡ resumes entry said answer stored → meets_fault (resumes entry said answer stored) ≡ is_fault stored → Appended 0 event old.house_log new.house_log
+pub faults-resumed : {K : Type 0} (signs : KeeperSigns K) (entry : ℕ) (said : Option FetchNote) (answer : ResumeAnswer) (stored : Stored) (event : Event) (old new : Housed K) → event ≡ resumes entry said answer stored → meets_fault (resumes entry said answer stored) ≡ is_fault stored → Appended 0 event old.house_log new.house_log
     → (stored ≡ Stored.Fault → Rose (signs.faults old.keeper) (signs.faults new.keeper)) → (stored ≡ Stored.Fault) ⊎ (signs.faults new.keeper ≡ signs.faults old.keeper) → ToldBefore signs.tells old.keeper new.keeper → KeeperFared signs old new
 faults-resumed signs entry said answer Stored.Yes event old new e m p r q t =
     fared-quiet signs old new (quiet-faults 0 event old.house_log new.house_log p (ap meets_fault e ∙ m)) (calm-stored Stored.Yes refl q) t
@@ -188,7 +189,7 @@ repeat-fails a entry refusal k w =
     record {
       hold_is = w.free.hold;
       fetched = (w.event, w.last, w.refused);
-      other = last-names_other a.facts a.first (rows_before a) (past_in a) w.event k.legal w.last refusal (last-refused_by (past_in a) entry refusal w.event w.last w.refused);
+      other = last-names_other (basis_in a) a.first (past_in a) w.event k.legal w.last refusal (last-refused_by (past_in a) entry refusal w.event w.last w.refused);
     }
 
 -- That which was decided.
@@ -197,7 +198,7 @@ verdict-fails a entry ticket fetched refusal o d =
     record {
       hold_is = o.held_is;
       fetched = resume-refused a entry ticket (note_of fetched) refusal (block_count fetched) o.held_is o.pending_is d;
-      other = refusal-other (case_of a.facts (rows_before a) (past_in a) 0 ticket.request (Stage.Resume entry ticket.release)) refusal d;
+      other = refusal-other (case_of (basis_in a) (past_in a) 0 ticket.request (Stage.Resume entry ticket.release)) refusal d;
     }
 
 -- A payload that isn't whole.
@@ -228,7 +229,7 @@ present-not_kept c (Some at) = found-not_kept c (target c.facts c.views c.reques
 
 pub never-kept : (a : HouseLogView) (entry : ℕ) (ticket : Ticket) → is_kept (resume_verdict a entry ticket) ≡ false
 never-kept a entry ticket =
-    let c : Case = case_of a.facts (rows_before a) (past_in a) 0 ticket.request (Stage.Resume entry ticket.release) in
+    let c : Case = case_of (basis_in a) (past_in a) 0 ticket.request (Stage.Resume entry ticket.release) in
     present-not_kept c (present c)
 
 -- ---- a resumption that takes its entry
@@ -264,30 +265,30 @@ begin-live a new entry ticket payload number event k s e p =
 pub begin-sheet : (a new : HouseLogView) (entry : ℕ) (ticket : Ticket) (payload : SealedBytes) (number : ℕ) (event : Event) → IsToResume a entry ticket payload number → Appended 0 event a new → number < length new.facts.sheets
 begin-sheet a new entry ticket payload number event s p = subst (λ (f : Facts). number < length f.sheets) (sym p.same.facts) (resume-sheet a entry ticket payload number s)
 
-pub begin-home : {K : Type 0} (told : K → List Row → Type 0) (doubted : K → Option Change) (entry : ℕ) (ticket : Ticket) (payload : SealedBytes) (number : ℕ) (h : Housed K) → IsHouse told doubted h → IsHouseLog h.house_log → IsToResume h.house_log entry ticket payload number → IsSome (place_at h.places number).board
-begin-home told doubted entry ticket payload number h w k s = let b = resume-board told doubted entry ticket payload number h w k s in ap is_some b.1
+pub begin-home : {K : Type 0} (signs : KeeperSigns K) (entry : ℕ) (ticket : Ticket) (payload : SealedBytes) (number : ℕ) (h : Housed K) → IsHouse signs h → IsHouseLog h.house_log → IsToResume h.house_log entry ticket payload number → IsSome (place_at h.places number).board
+begin-home signs entry ticket payload number h w k s = let b = resume-board signs entry ticket payload number h w k s in ap is_some b.1
 
-pub house-took : {K : Type 0} (told : K → List Row → Type 0) (doubted : K → Option Change) (entry : ℕ) (ticket : Ticket) (payload : SealedBytes) (number : ℕ) (change : Change) (event : Event) (h : Housed K) (new : HouseLogView) (keeper : K) (places : List Place) → IsHouse told doubted h → IsHouseLog h.house_log → IsHouseLog new → IsToResume h.house_log entry ticket payload number
-    → event ≡ begins entry payload → Appended 0 event h.house_log new → change ≡ change_of h.house_log entry ResumeAnswer.Begun → StoredAs change Stored.Yes (told h.keeper) (told keeper) (doubted keeper) → places ≡ places_without h.places number
-    → IsHouse told doubted (record { house_log = new; places = places; pool = h.pool; keeper = keeper })
-house-took told doubted entry ticket payload number change event h new keeper places w k k' s e p c m q =
-    subst (λ (ps : List Place). IsHouse told doubted (record { house_log = new; places = ps; pool = h.pool; keeper = keeper })) (sym q)
-    (house-begun told doubted entry number (Some (whole_note payload)) h new keeper w k k'
+pub house-took : {K : Type 0} (signs : KeeperSigns K) (entry : ℕ) (ticket : Ticket) (payload : SealedBytes) (number : ℕ) (change : Change) (event : Event) (h : Housed K) (new : HouseLogView) (keeper : K) (places : List Place) → IsHouse signs h → IsHouseLog h.house_log → IsHouseLog new → IsToResume h.house_log entry ticket payload number
+    → event ≡ begins entry payload → Appended 0 event h.house_log new → change ≡ change_of h.house_log entry ResumeAnswer.Begun → StoredAs change Stored.Yes (signs.tells h.keeper) (signs.tells keeper) (signs.doubt keeper) → places ≡ places_without h.places number
+    → IsHouse signs (record { house_log = new; places = places; pool = h.pool; keeper = keeper })
+house-took signs entry ticket payload number change event h new keeper places w k k' s e p c m q =
+    subst (λ (ps : List Place). IsHouse signs (record { house_log = new; places = ps; pool = h.pool; keeper = keeper })) (sym q)
+    (house-begun signs entry number (Some (whole_note payload)) h new keeper w k k'
     (subst (λ (x : Event). Appended 0 x h.house_log new) e p) s.may
-    (subst (λ (x : Change). StoredAs x Stored.Yes (told h.keeper) (told keeper) (doubted keeper)) c m)
-    (resume-takes_entry h.house_log entry ticket payload number k s) (resume-within told doubted entry ticket payload number h w s)
+    (subst (λ (x : Change). StoredAs x Stored.Yes (signs.tells h.keeper) (signs.tells keeper) (signs.doubt keeper)) c m)
+    (resume-takes_entry h.house_log entry ticket payload number k s) (resume-within signs entry ticket payload number h w s)
     (resume-same_held h.house_log entry ticket payload k s.hold_is))
 
-pub house-doubts : {K : Type 0} (told : K → List Row → Type 0) (doubted : K → Option Change) (entry : ℕ) (ticket : Ticket) (payload : SealedBytes) (number : ℕ) (change : Change) (event : Event) (h : Housed K) (new : HouseLogView) (pool : PoolCounts) (keeper : K) → IsHouse told doubted h → IsHouseLog h.house_log → IsHouseLog new → IsToResume h.house_log entry ticket payload number
-    → event ≡ doubts entry payload → Appended 0 event h.house_log new → change ≡ change_of h.house_log entry ResumeAnswer.Begun → StoredAs change Stored.Fault (told h.keeper) (told keeper) (doubted keeper) → pool.capacity ≡ h.pool.capacity → pool.free ≡ h.pool.free + payload.count
-    → IsHouse told doubted (record { house_log = new; places = h.places; pool = pool; keeper = keeper })
-house-doubts told doubted entry ticket payload number change event h new pool keeper w k k' s e p c m cap free =
-    house-refused told doubted entry (Some (ticket, Fetched.Whole payload)) (Some (whole_note payload)) Refusal.KeeperFault Stored.Fault h new pool keeper w k k'
+pub house-doubts : {K : Type 0} (signs : KeeperSigns K) (entry : ℕ) (ticket : Ticket) (payload : SealedBytes) (number : ℕ) (change : Change) (event : Event) (h : Housed K) (new : HouseLogView) (pool : PoolCounts) (keeper : K) → IsHouse signs h → IsHouseLog h.house_log → IsHouseLog new → IsToResume h.house_log entry ticket payload number
+    → event ≡ doubts entry payload → Appended 0 event h.house_log new → change ≡ change_of h.house_log entry ResumeAnswer.Begun → StoredAs change Stored.Fault (signs.tells h.keeper) (signs.tells keeper) (signs.doubt keeper) → pool.capacity ≡ h.pool.capacity → pool.free ≡ h.pool.free + payload.count
+    → IsHouse signs (record { house_log = new; places = h.places; pool = pool; keeper = keeper })
+house-doubts signs entry ticket payload number change event h new pool keeper w k k' s e p c m cap free =
+    house-refused signs entry (Some (ticket, Fetched.Whole payload)) (Some (whole_note payload)) Refusal.KeeperFault Stored.Fault h new pool keeper w k k'
     (subst (λ (x : Event). Appended 0 x h.house_log new) e p) s.may s.hold_is.held_is
-    (subst (λ (x : Change). StoredAs x Stored.Fault (told h.keeper) (told keeper) (doubted keeper)) c m) cap free
+    (subst (λ (x : Change). StoredAs x Stored.Fault (signs.tells h.keeper) (signs.tells keeper) (signs.doubt keeper)) c m) cap free
 
-pub doubt-fits : {K : Type 0} (told : K → List Row → Type 0) (doubted : K → Option Change) (entry : ℕ) (ticket : Ticket) (payload : SealedBytes) (number : ℕ) (h : Housed K) → IsHouse told doubted h → IsHouseLog h.house_log → IsToResume h.house_log entry ticket payload number → h.pool.free + payload.count ≤ h.pool.capacity
-doubt-fits told doubted entry ticket payload number h w k s = refused-fits told doubted (Some (ticket, Fetched.Whole payload)) h w k s.hold_is.held_is
+pub doubt-fits : {K : Type 0} (signs : KeeperSigns K) (entry : ℕ) (ticket : Ticket) (payload : SealedBytes) (number : ℕ) (h : Housed K) → IsHouse signs h → IsHouseLog h.house_log → IsToResume h.house_log entry ticket payload number → h.pool.free + payload.count ≤ h.pool.capacity
+doubt-fits signs entry ticket payload number h w k s = refused-fits signs (Some (ticket, Fetched.Whole payload)) h w k s.hold_is.held_is
 
 pub turn-took : (a b new : HouseLogView) (entry : ℕ) (payload : SealedBytes) (taken : Taken) (event : Event) → a ≡ b → MayResume a entry → event ≡ begins entry payload → Appended 0 event a new → ResumeTurned entry (Some (whole_note payload)) (Ok (Claimed.Taken taken)) b new
 turn-took a b new entry payload taken event same m e p =
@@ -298,16 +299,16 @@ turn-doubts a b new entry payload event same m e p =
     resumed-over entry (Some (whole_note payload)) (Ok (Claimed.Refused Refusal.KeeperFault)) a b new same (m.runs, (Stored.Fault, refl, subst (λ (x : Event). Appended 0 x a new) e p))
 
 -- What became of a resumption that took its entry.
-pub gave-taken : {K : Type 0} (told : K → List Row → Type 0) (doubted : K → Option Change) (entry : ℕ) (ticket : Ticket) (payload : SealedBytes) (number : ℕ) (taken : Taken) (event : Event) (old new : Housed K) → IsHouse told doubted old → IsHouseLog old.house_log → IsToResume old.house_log entry ticket payload number
+pub gave-taken : {K : Type 0} (signs : KeeperSigns K) (entry : ℕ) (ticket : Ticket) (payload : SealedBytes) (number : ℕ) (taken : Taken) (event : Event) (old new : Housed K) → IsHouse signs old → IsHouseLog old.house_log → IsToResume old.house_log entry ticket payload number
     → IfSome (place_at old.places number).board (λ b. 8 ≤ b.room) → event ≡ begins entry payload → Appended 0 event old.house_log new.house_log → new.pool ≡ old.pool → new.places ≡ places_without old.places number → (place_at old.places number).board ≡ Some taken.board → taken.entry ≡ entry → taken.payload ≡ payload
-    → taken.plugin ≡ place_given (unwrap_or (plugin_at new.house_log.facts number) 0) → trace new.house_log.facts (rows_before new.house_log) entry (past new) ≡ Some taken.trace
+    → taken.plugin ≡ place_given (unwrap_or (plugin_at new.house_log.facts number) 0) → trace (basis_in new.house_log) entry (past new) ≡ Some taken.trace
     → ResumeGave entry (Some (ticket, Fetched.Whole payload)) (Ok (Claimed.Taken taken)) old new
-gave-taken told doubted entry ticket payload number taken event old new h k s marks ev a pool places board is same plugin traced =
-    let b = resume-board told doubted entry ticket payload number old h k s in
+gave-taken signs entry ticket payload number taken event old new h k s marks ev a pool places board is same plugin traced =
+    let b = resume-board signs entry ticket payload number old h k s in
     let e : Some b.0 ≡ Some taken.board = sym b.1 ∙ board in
     let own : b.0 ≡ taken.board = cc in
     let room : 8 ≤ taken.board.room = subst (λ (o : Option BoardState). IfSome o (λ x. 8 ≤ x.room)) board marks in
-    let stands : BoardStands old.house_log.facts old.house_log.first (rows_before old.house_log) (past old) number taken.board [] = subst (λ (x : BoardState). BoardStands old.house_log.facts old.house_log.first (rows_before old.house_log) (past old) number x []) own b.2 in (
+    let stands : BoardStands (basis_in old.house_log) old.house_log.first (past old) number taken.board [] = subst (λ (x : BoardState). BoardStands (basis_in old.house_log) old.house_log.first (past old) number x []) own b.2 in (
       is,
       (ticket, ap (λ (x : SealedBytes). Some (ticket, Fetched.Whole x)) (sym same)),
       pool,
@@ -328,12 +329,12 @@ pub record IsAboutTo {K : Type 0} (h : Housed K) (entry : ℕ) (ticket : Ticket)
   pub held : IsOpenHold h.house_log entry ticket (Fetched.Whole payload)
   pub accepted : IsAccept (resume_verdict h.house_log entry ticket)
 
-pub resume-plan : {K : Type 0} (told : K → List Row → Type 0) (doubted : K → Option Change) (entry : ℕ) (ticket : Ticket) (payload : SealedBytes) (number : ℕ) (h b : Housed K) → h ≡ b → IsHouse told doubted h → IsHouseLog h.house_log → IsAboutTo b entry ticket payload → number ≡ unwrap_or (board_of h.house_log.facts h.house_log.core.rows entry) 0 → ResumePlan b entry ticket payload number
-resume-plan {K = K} told doubted entry ticket payload number h b e w k t n =
+pub resume-plan : {K : Type 0} (signs : KeeperSigns K) (entry : ℕ) (ticket : Ticket) (payload : SealedBytes) (number : ℕ) (h b : Housed K) → h ≡ b → IsHouse signs h → IsHouseLog h.house_log → IsAboutTo b entry ticket payload → number ≡ unwrap_or (board_of h.house_log.facts h.house_log.core.rows entry) 0 → ResumePlan b entry ticket payload number
+resume-plan {K = K} signs entry ticket payload number h b e w k t n =
     let t' : IsAboutTo h entry ticket payload = subst (λ (x : Housed K). IsAboutTo x entry ticket payload) (sym e) t in
     let s = to-resume h.house_log entry ticket payload number t'.may k t'.held t'.accepted n in
     subst (λ (x : Housed K). ResumePlan x entry ticket payload number) e
-    (record { within = resume-within told doubted entry ticket payload number h w s; home = begin-home told doubted entry ticket payload number h w k s; begins_so = s })
+    (record { within = resume-within signs entry ticket payload number h w s; home = begin-home signs entry ticket payload number h w k s; begins_so = s })
 
 -- ---- an ask that was refused
 

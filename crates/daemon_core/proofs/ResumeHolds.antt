@@ -5,20 +5,19 @@ use Rattle.device_list.specs.declared.selector.Selector.{Selector}
 use Rattle.fw_facts.specs.declared.seen.Seen.{Seen}
 use Rattle.history_keeper.specs.Histories.{IsHistory}
 use Rattle.history_keeper.specs.declared.row.Row.{Row}
-use Rattle.update_log.proofs.HoldsMade.{HoldsMade, IsOfRow, request-made}
+use Rattle.update_log.proofs.HoldsMade.{IsOfRow, request-made}
 use Rattle.update_log.proofs.LegalOnce.{past-held}
 use Rattle.update_log.proofs.Lists.{All-find, by_test}
 use Rattle.update_log.specs.Holding.{hold, holds}
-use Rattle.update_log.specs.Known.{row_of, rows}
+use Rattle.update_log.specs.Known.{Basis, row_of, rows}
 use Rattle.update_log.specs.Legal.{Allowed, IsLegal, IsRefusedAsk, ask_answer, ask_stage}
 use Rattle.update_log.specs.Pasts.{is_boot, is_keeper_fault, is_of, last_of}
-use Rattle.update_log.specs.Shows.{Campaign}
+use Rattle.update_log.specs.Shows.{campaign_on, Campaign}
 use Rattle.update_log.specs.Verdicts.{case_of, verdict}
 use Rattle.update_log.specs.declared.answer.AskAnswer.{AskAnswer}
 use Rattle.update_log.specs.declared.answer.ResumeAnswer.{ResumeAnswer}
 use Rattle.update_log.specs.declared.decision.Decision.{Decision}
 use Rattle.update_log.specs.declared.event.Event.{Event}
-use Rattle.update_log.specs.declared.facts.Facts.{Facts}
 use Rattle.update_log.specs.declared.live.Held.{Held}
 use Rattle.update_log.specs.declared.refusal.Refusal.{Refusal}
 use Rattle.update_log.specs.declared.request.Request.{Request}
@@ -29,13 +28,12 @@ use Rattle.daemon_core.proofs.PuttingOff.{refusal-other}
 -- ---- the row of a hold
 
 -- The daemon's hold is of the device of the row that made it.
-pub hold-device : (facts : Facts) (first : List Seen) (opening : List Row) (past : List Event) (entry : ℕ) (h : Held) (row : Row) → IsHistory opening → IsLegalSo facts first opening past → hold past 0 ≡ Some h → h.pending ≡ Some entry → row_of (rows facts opening past) entry ≡ Some row
+pub hold-device : (basis : Basis) (first : List Seen) (past : List Event) (entry : ℕ) (h : Held) (row : Row) → IsHistory basis.opening → IsLegalSo basis first past → hold past 0 ≡ Some h → h.pending ≡ Some entry → row_of (rows basis past) entry ≡ Some row
     → h.request.device ≡ Selector.Id row.device
-hold-device facts first opening past entry h row v l e p r =
-    let both = past-held l.0 opening past v l.3 in
-    let all : HoldsMade facts opening past = subst (λ (x : Facts). HoldsMade x opening past) l.1 both.made in
-    let k : IsOfRow (rows facts opening past) h = All-find (IsOfRow (rows facts opening past)) (λ (x : Held). x.client == 0) (holds past) h all e in
-    ap (λ (x : Request). x.device) (request-made (rows facts opening past) h entry row k p r)
+hold-device basis first past entry h row v l e p r =
+    let both = past-held (campaign_on basis first l.0) past v l.1 in
+    let k : IsOfRow (rows basis past) h = All-find (IsOfRow (rows basis past)) (λ (x : Held). x.client == 0) (holds past) h both.made e in
+    ap (λ (x : Request). x.device) (request-made (rows basis past) h entry row k p r)
 
 -- ---- the daemon's last event
 
@@ -48,27 +46,27 @@ refused-answer (Decision.Refused r) refusal e = cc
 abbrev pub NamesOther : Event → Type 0
 NamesOther event = (refusal : Refusal) → refused_by event ≡ Some refusal → is_keeper_fault refusal ≡ false
 
-allowed-other : (c : Campaign) (opening : List Row) (past : List Event) (event : Event) → Allowed c opening past event → NamesOther event
-allowed-other c opening past (Event.Ask client request pending (AskAnswer.Refused given)) a = λ refusal e.
+allowed-other : (c : Campaign) (past : List Event) (event : Event) → Allowed c past event → NamesOther event
+allowed-other c past (Event.Ask client request pending (AskAnswer.Refused given)) a = λ refusal e.
     by_test (client == 0) _
     (λ t. let s : Some given ≡ Some refusal = rw t at e in
     let same : given ≡ refusal = cc in
-    let d = refused-answer (verdict c.facts opening past client request (ask_stage pending)) given a.answer_is in
-    subst (λ (x : Refusal). is_keeper_fault x ≡ false) same (refusal-other (case_of c.facts opening past client request (ask_stage pending)) given d))
+    let d = refused-answer (verdict c.basis past client request (ask_stage pending)) given a.answer_is in
+    subst (λ (x : Refusal). is_keeper_fault x ≡ false) same (refusal-other (case_of c.basis past client request (ask_stage pending)) given d))
     (λ f. let bad : None ≡ Some refusal = rw f at e in cc)
-allowed-other c opening past _ a = λ refusal e. cc
+allowed-other c past _ a = λ refusal e. cc
 
-last-other : (c : Campaign) (opening : List Row) (past : List Event) (event : Event) → IsLegal c opening past → last_of 0 past ≡ Some event → NamesOther event
-last-other c opening [] event l h = cc
-last-other c opening (e ∷ past) event l h =
+last-other : (c : Campaign) (past : List Event) (event : Event) → IsLegal c past → last_of 0 past ≡ Some event → NamesOther event
+last-other c [] event l h = cc
+last-other c (e ∷ past) event l h =
     by_test (is_boot e) _
     (λ t. let bad : None ≡ Some event = rw t at h in cc)
     (λ f. by_test (is_of 0 e) _
-    (λ t. let s : Some e ≡ Some event = rw (f, t) at h in let same : e ≡ event = cc in subst NamesOther same (allowed-other c opening past e l.2))
-    (λ u. last-other c opening past event l.0 (rw (f, u) at h)))
+    (λ t. let s : Some e ≡ Some event = rw (f, t) at h in let same : e ≡ event = cc in subst NamesOther same (allowed-other c past e l.2))
+    (λ u. last-other c past event l.0 (rw (f, u) at h)))
 
-pub last-names_other : (facts : Facts) (first : List Seen) (opening : List Row) (past : List Event) (event : Event) → IsLegalSo facts first opening past → last_of 0 past ≡ Some event → NamesOther event
-last-names_other facts first opening past event l h = last-other l.0 opening past event l.3 h
+pub last-names_other : (basis : Basis) (first : List Seen) (past : List Event) (event : Event) → IsLegalSo basis first past → last_of 0 past ≡ Some event → NamesOther event
+last-names_other basis first past event l h = last-other (campaign_on basis first l.0) past event l.1 h
 
 -- It is the daemon's.
 last-own : (past : List Event) (event : Event) → last_of 0 past ≡ Some event → is_of 0 event ≡ true

@@ -5,19 +5,19 @@ use Rattle.std.specs.Prelude.{Option, Some, None}
 use Rattle.block_pool.specs.Views.{PoolCounts}
 use Rattle.daemon_core.proofs.PuttingOff.{no-doubt, suits-told}
 use Rattle.history_keeper.specs.Changes.{Suits, with_state}
+use Rattle.history_keeper.specs.Signs.{KeeperSigns}
 use Rattle.history_keeper.specs.declared.change.Change.{Change}
 use Rattle.history_keeper.specs.declared.row.Row.{Row}
 use Rattle.history_keeper.specs.declared.row.RowState.{RowState}
 use Rattle.update_log.proofs.Lists.{by_test}
-use Rattle.update_log.specs.CoreSteps.{resumption_on}
-use Rattle.update_log.specs.Holding.{held, hold}
-use Rattle.update_log.specs.Known.{Fate, doubt, doubt_by, fate_stored, reason_of, refusal_number, row_of, rows, rows_by}
+use Rattle.core_state.specs.CoreSteps.{resumption_on}
+use Rattle.update_log.specs.Holding.{held}
+use Rattle.update_log.specs.Known.{Basis, Fate, doubt, doubt_by, fate_stored, reason_of, refusal_number, row_of, rows, rows_by}
 use Rattle.update_log.specs.Legal.{BootTakes, ResumeAllowed, ResumeFetched, ResumeStored}
 use Rattle.update_log.specs.Pasts.{is_keeper_fault, time_of}
 use Rattle.update_log.specs.declared.answer.ResumeAnswer.{ResumeAnswer}
 use Rattle.update_log.specs.declared.event.Event.{Event}
 use Rattle.update_log.specs.declared.event.Stored.{Stored}
-use Rattle.update_log.specs.declared.facts.Facts.{Facts}
 use Rattle.update_log.specs.declared.refusal.FetchNote.{FetchNote}
 use Rattle.update_log.specs.declared.refusal.Refusal.{Refusal}
 use Rattle.daemon_core.specs.declared.fetched.Fetched.{Fetched}
@@ -28,7 +28,7 @@ use Rattle.daemon_core.specs.Commits.{StoredAs}
 use Rattle.daemon_core.specs.Fetches.{block_count}
 use Rattle.daemon_core.specs.Holds.{held_by}
 use Rattle.daemon_core.specs.House.{IsHouse}
-use Rattle.daemon_core.specs.Housed.{HouseLogView, Housed, past, past_in, rows_before}
+use Rattle.daemon_core.specs.Housed.{basis_in, campaign_in, HouseLogView, Housed, past, past_in}
 use Rattle.daemon_core.specs.Keeping.{HasRows}
 use Rattle.daemon_core.specs.Resumes.{HoldIs, MayResume, blocks_in}
 use Rattle.daemon_core.specs.Returns.{place_at}
@@ -52,15 +52,15 @@ resumes entry said answer stored = Event.Resume 0 entry said answer stored
 -- ---- the change
 
 -- The rows and the doubt after the event are those with the change that it asks for.
-pub resumed-rows : (facts : Facts) (opening : List Row) (past : List Event) (entry : ℕ) (said : Option FetchNote) (answer : ResumeAnswer) (stored : Stored)
-    → rows facts opening (resumes entry said answer stored ∷ past) ≡ rows_by (fate_stored stored) (Some (resumption_on (time_of past) (rows facts opening past) entry answer)) (rows facts opening past)
-resumed-rows facts opening past entry said ResumeAnswer.Begun stored = refl
-resumed-rows facts opening past entry said (ResumeAnswer.Refused refusal) stored = by_test (is_keeper_fault refusal) _ (λ t. rw t refl) (λ t. rw t refl)
+pub resumed-rows : (basis : Basis) (past : List Event) (entry : ℕ) (said : Option FetchNote) (answer : ResumeAnswer) (stored : Stored)
+    → rows basis (resumes entry said answer stored ∷ past) ≡ rows_by (fate_stored stored) (Some (resumption_on (time_of past) (rows basis past) entry answer)) (rows basis past)
+resumed-rows basis past entry said ResumeAnswer.Begun stored = refl
+resumed-rows basis past entry said (ResumeAnswer.Refused refusal) stored = by_test (is_keeper_fault refusal) _ (λ t. rw t refl) (λ t. rw t refl)
 
-pub resumed-doubt : (facts : Facts) (opening : List Row) (past : List Event) (entry : ℕ) (said : Option FetchNote) (answer : ResumeAnswer) (stored : Stored)
-    → doubt facts opening (resumes entry said answer stored ∷ past) ≡ doubt_by (fate_stored stored) (Some (resumption_on (time_of past) (rows facts opening past) entry answer)) (doubt facts opening past)
-resumed-doubt facts opening past entry said ResumeAnswer.Begun stored = refl
-resumed-doubt facts opening past entry said (ResumeAnswer.Refused refusal) stored = by_test (is_keeper_fault refusal) _ (λ t. rw t refl) (λ t. rw t refl)
+pub resumed-doubt : (basis : Basis) (past : List Event) (entry : ℕ) (said : Option FetchNote) (answer : ResumeAnswer) (stored : Stored)
+    → doubt basis (resumes entry said answer stored ∷ past) ≡ doubt_by (fate_stored stored) (Some (resumption_on (time_of past) (rows basis past) entry answer)) (doubt basis past)
+resumed-doubt basis past entry said ResumeAnswer.Begun stored = refl
+resumed-doubt basis past entry said (ResumeAnswer.Refused refusal) stored = by_test (is_keeper_fault refusal) _ (λ t. rw t refl) (λ t. rw t refl)
 
 -- The change suits the rows.
 pub resumed-suits : (all : List Row) (time entry : ℕ) (answer : ResumeAnswer) (row : Row) → row_of all entry ≡ Some row → Suits (resumption_on time all entry answer) all
@@ -87,22 +87,22 @@ resumed-many fate time entry (ResumeAnswer.Refused refusal) all =
 
 -- What the log says of the answer.
 pub record Answers (a : HouseLogView) (entry : ℕ) (said : Option FetchNote) (answer : ResumeAnswer) (stored : Stored) : Type 0 where
-  pub fetched : ResumeFetched a.facts (rows_before a) (past_in a) entry said answer
+  pub fetched : ResumeFetched (basis_in a) (past_in a) entry said answer
   pub stored_is : ResumeStored answer stored
 
-pub resume-allowed : (a : HouseLogView) (entry : ℕ) (said : Option FetchNote) (answer : ResumeAnswer) (stored : Stored) → IsHouseLog a → MayResume a entry → Answers a entry said answer stored → IsAllowedSo a.facts a.first (rows_before a) (past_in a) (resumes entry said answer stored)
+pub resume-allowed : (a : HouseLogView) (entry : ℕ) (said : Option FetchNote) (answer : ResumeAnswer) (stored : Stored) → IsHouseLog a → MayResume a entry → Answers a entry said answer stored → IsAllowedSo (basis_in a) a.first (past_in a) (resumes entry said answer stored)
 resume-allowed a entry said answer stored k m w =
     let row : Row = m.put_off.row in
-    let r : ResumeAllowed a.facts (rows_before a) (past_in a) 0 entry said answer stored row =
+    let r : ResumeAllowed (basis_in a) (past_in a) 0 entry said answer stored row =
     record { client_is = refl; row_is = subst (λ (x : List Row). row_of x entry ≡ Some row) k.stands.rows m.put_off.row_is; pending = m.put_off.pending; fetched_is = w.fetched; stored_is = w.stored_is } in
-    λ c f i. (row, subst (λ (x : Facts). ResumeAllowed x (rows_before a) (past_in a) 0 entry said answer stored row) (sym f) r)
+    λ plans. (row, r)
 
 pub resume-takes : (a : HouseLogView) (entry : ℕ) (said : Option FetchNote) (answer : ResumeAnswer) (stored : Stored) → MayResume a entry → BootTakes (past_in a) (resumes entry said answer stored)
 resume-takes a entry said answer stored m = runs-takes a (resumes entry said answer stored) m.runs m.booted refl
 
-pub resume-legal : (a : HouseLogView) (entry : ℕ) (said : Option FetchNote) (answer : ResumeAnswer) (stored : Stored) → IsHouseLog a → MayResume a entry → Answers a entry said answer stored → IsLegalSo a.facts a.first (rows_before a) (resumes entry said answer stored ∷ past_in a)
+pub resume-legal : (a : HouseLogView) (entry : ℕ) (said : Option FetchNote) (answer : ResumeAnswer) (stored : Stored) → IsHouseLog a → MayResume a entry → Answers a entry said answer stored → IsLegalSo (basis_in a) a.first (resumes entry said answer stored ∷ past_in a)
 resume-legal a entry said answer stored k m w =
-    legal-next a.facts a.first (rows_before a) (past_in a) (resumes entry said answer stored) k.legal (resume-takes a entry said answer stored m) (resume-allowed a entry said answer stored k m w)
+    legal-next (basis_in a) a.first (past_in a) (resumes entry said answer stored) k.legal (resume-takes a entry said answer stored m) (resume-allowed a entry said answer stored k m w)
 
 adds-few : (entry : ℕ) (said : Option FetchNote) (answer : ResumeAnswer) (stored : Stored) → adds (resumes entry said answer stored) ≤ 15
 adds-few entry said ResumeAnswer.Begun stored = omega arith
@@ -111,11 +111,11 @@ adds-few entry said (ResumeAnswer.Refused refusal) stored = omega arith
 pub resume-ready : (a : HouseLogView) (entry : ℕ) (said : Option FetchNote) (answer : ResumeAnswer) (stored : Stored) → IsHouseLog a → MayResume a entry → Answers a entry said answer stored → IsReady a (resumes entry said answer stored)
 resume-ready a entry said answer stored k m w =
     let l = resume-legal a entry said answer stored k m w in
-    let more = adds-legal l.0 (rows_before a) (past_in a) (resumes entry said answer stored) l.3 refl in
+    let more = adds-legal (campaign_in a l.0) (past_in a) (resumes entry said answer stored) l.1 refl in
     let few = adds-few entry said answer stored in
     let room = m.room in
-    let all = ap length (resumed-rows a.facts (rows_before a) (past_in a) entry said answer stored) in
-    let many = resumed-many (fate_stored stored) (time_of (past_in a)) entry answer (rows a.facts (rows_before a) (past_in a)) in
+    let all = ap length (resumed-rows (basis_in a) (past_in a) entry said answer stored) in
+    let many = resumed-many (fate_stored stored) (time_of (past_in a)) entry answer (rows (basis_in a) (past_in a)) in
     let same = ap length k.stands.rows in
     record {
       takes = resume-takes a entry said answer stored m;
@@ -130,27 +130,26 @@ resume-ready a entry said answer stored k m w =
 abbrev pub change_of : HouseLogView → ℕ → ResumeAnswer → Change
 change_of a entry answer = resumption_on (time_of (past_in a)) a.core.rows entry answer
 
-pub resume-keeps : {K : Type 0} (told : K → List Row → Type 0) (doubted : K → Option Change) (entry : ℕ) (said : Option FetchNote) (answer : ResumeAnswer) (stored : Stored) (h : Housed K) (keeper : K) → IsHouse told doubted h → IsHouseLog h.house_log → MayResume h.house_log entry → StoredAs (change_of h.house_log entry answer) stored (told h.keeper) (told keeper) (doubted keeper)
-    → HasRows told doubted keeper (rows h.house_log.facts (rows_before h.house_log) (resumes entry said answer stored ∷ past h)) (doubt h.house_log.facts (rows_before h.house_log) (resumes entry said answer stored ∷ past h))
-resume-keeps told doubted entry said answer stored h keeper w k m s =
-    let f : Facts = h.house_log.facts in
-    let b : List Row = rows_before h.house_log in
-    let clear = house-clear told doubted h w k m.loaded m.runs.on in
-    let kept = stored-keeps told doubted h.keeper keeper h.house_log.core.rows (change_of h.house_log entry answer) stored clear s in
-    let r : rows_by (fate_stored stored) (Some (change_of h.house_log entry answer)) h.house_log.core.rows ≡ rows f b (resumes entry said answer stored ∷ past h) =
-    ap (λ (x : List Row). rows_by (fate_stored stored) (Some (resumption_on (time_of (past h)) x entry answer)) x) k.stands.rows ∙ sym (resumed-rows f b (past h) entry said answer stored) in
-    let d : doubt_by (fate_stored stored) (Some (change_of h.house_log entry answer)) None ≡ doubt f b (resumes entry said answer stored ∷ past h) =
+pub resume-keeps : {K : Type 0} (signs : KeeperSigns K) (entry : ℕ) (said : Option FetchNote) (answer : ResumeAnswer) (stored : Stored) (h : Housed K) (keeper : K) → IsHouse signs h → IsHouseLog h.house_log → MayResume h.house_log entry → StoredAs (change_of h.house_log entry answer) stored (signs.tells h.keeper) (signs.tells keeper) (signs.doubt keeper)
+    → HasRows signs keeper (rows (basis_in h.house_log) (resumes entry said answer stored ∷ past h)) (doubt (basis_in h.house_log) (resumes entry said answer stored ∷ past h))
+resume-keeps signs entry said answer stored h keeper w k m s =
+    let g : Basis = basis_in h.house_log in
+    let clear = house-clear signs h w k m.loaded m.runs.on in
+    let kept = stored-keeps signs h.keeper keeper h.house_log.core.rows (change_of h.house_log entry answer) stored clear s in
+    let r : rows_by (fate_stored stored) (Some (change_of h.house_log entry answer)) h.house_log.core.rows ≡ rows g (resumes entry said answer stored ∷ past h) =
+    ap (λ (x : List Row). rows_by (fate_stored stored) (Some (resumption_on (time_of (past h)) x entry answer)) x) k.stands.rows ∙ sym (resumed-rows g (past h) entry said answer stored) in
+    let d : doubt_by (fate_stored stored) (Some (change_of h.house_log entry answer)) None ≡ doubt g (resumes entry said answer stored ∷ past h) =
     ap (λ (x : List Row). doubt_by (fate_stored stored) (Some (resumption_on (time_of (past h)) x entry answer)) None) k.stands.rows
-    ∙ ap (λ (x : Option Change). doubt_by (fate_stored stored) (Some (resumption_on (time_of (past h)) (rows f b (past h)) entry answer)) x) (sym (no-doubt h.house_log k m.runs.on))
-    ∙ sym (resumed-doubt f b (past h) entry said answer stored) in
-    subst (λ (x : List Row). HasRows told doubted keeper x (doubt f b (resumes entry said answer stored ∷ past h))) r
-    (subst (λ (x : Option Change). HasRows told doubted keeper (rows_by (fate_stored stored) (Some (change_of h.house_log entry answer)) h.house_log.core.rows) x) d kept)
+    ∙ ap (λ (x : Option Change). doubt_by (fate_stored stored) (Some (resumption_on (time_of (past h)) (rows g (past h)) entry answer)) x) (sym (no-doubt h.house_log k m.runs.on))
+    ∙ sym (resumed-doubt g (past h) entry said answer stored) in
+    subst (λ (x : List Row). HasRows signs keeper x (doubt g (resumes entry said answer stored ∷ past h))) r
+    (subst (λ (x : Option Change). HasRows signs keeper (rows_by (fate_stored stored) (Some (change_of h.house_log entry answer)) h.house_log.core.rows) x) d kept)
 
 -- The keeper may be asked for it.
-pub resume-suits : {K : Type 0} (told : K → List Row → Type 0) (doubted : K → Option Change) (entry : ℕ) (answer : ResumeAnswer) (h : Housed K) → IsHouse told doubted h → IsHouseLog h.house_log → MayResume h.house_log entry → (all : List Row) → told h.keeper all → Suits (change_of h.house_log entry answer) all
-resume-suits told doubted entry answer h w k m =
-    let clear = house-clear told doubted h w k m.loaded m.runs.on in
-    suits-told (told h.keeper) h.house_log.core.rows (change_of h.house_log entry answer) clear.rows_are
+pub resume-suits : {K : Type 0} (signs : KeeperSigns K) (entry : ℕ) (answer : ResumeAnswer) (h : Housed K) → IsHouse signs h → IsHouseLog h.house_log → MayResume h.house_log entry → (all : List Row) → signs.tells h.keeper all → Suits (change_of h.house_log entry answer) all
+resume-suits signs entry answer h w k m =
+    let clear = house-clear signs h w k m.loaded m.runs.on in
+    suits-told (signs.tells h.keeper) h.house_log.core.rows (change_of h.house_log entry answer) clear.rows_are
     (resumed-suits h.house_log.core.rows (time_of (past h)) entry answer m.put_off.row m.put_off.row_is)
 
 -- ---- a resumption that was refused
@@ -160,50 +159,50 @@ pub refused-held : (a : HouseLogView) (entry : ℕ) (held' : Option (Ticket × F
 refused-held a entry None said refusal stored k h = let e = held-repeated (past_in a) 0 entry said refusal stored h in omega (arith, e)
 refused-held a entry (Some x) said refusal stored k h =
     let w = k.legal in
-    held-not_resumed (past_in a) 0 entry said refusal stored (held_by x.0 (block_count x.1)) (out-once w.0 (rows_before a) (past_in a) k.stands.history w.3) h
+    held-not_resumed (past_in a) 0 entry said refusal stored (held_by x.0 (block_count x.1)) (out-once (campaign_in a w.0) (past_in a) k.stands.history w.1) h
 
 -- They fit into the pool.
-pub refused-fits : {K : Type 0} (told : K → List Row → Type 0) (doubted : K → Option Change) (held' : Option (Ticket × Fetched)) (h : Housed K) → IsHouse told doubted h → IsHouseLog h.house_log → HoldIs h.house_log held' → h.pool.free + blocks_in held' ≤ h.pool.capacity
-refused-fits told doubted held' h w k m =
+pub refused-fits : {K : Type 0} (signs : KeeperSigns K) (held' : Option (Ticket × Fetched)) (h : Housed K) → IsHouse signs h → IsHouseLog h.house_log → HoldIs h.house_log held' → h.pool.free + blocks_in held' ≤ h.pool.capacity
+refused-fits signs held' h w k m =
     let e = refused-held h.house_log 0 held' None Refusal.KeeperFault Stored.Fault k m in
     let f = w.free in let c = w.capacity in omega (arith, e, f, c)
 
-pub house-refused : {K : Type 0} (told : K → List Row → Type 0) (doubted : K → Option Change) (entry : ℕ) (held' : Option (Ticket × Fetched)) (said : Option FetchNote) (refusal : Refusal) (stored : Stored) (old : Housed K) (new : HouseLogView) (pool : PoolCounts) (keeper : K) → IsHouse told doubted old → IsHouseLog old.house_log → IsHouseLog new
-    → Appended 0 (resumes entry said (ResumeAnswer.Refused refusal) stored) old.house_log new → MayResume old.house_log entry → HoldIs old.house_log held' → StoredAs (change_of old.house_log entry (ResumeAnswer.Refused refusal)) stored (told old.keeper) (told keeper) (doubted keeper)
-    → pool.capacity ≡ old.pool.capacity → pool.free ≡ old.pool.free + blocks_in held' → IsHouse told doubted (record { house_log = new; places = old.places; pool = pool; keeper = keeper })
-house-refused told doubted entry held' said refusal stored old new pool keeper h o k a m hold s cap free =
+pub house-refused : {K : Type 0} (signs : KeeperSigns K) (entry : ℕ) (held' : Option (Ticket × Fetched)) (said : Option FetchNote) (refusal : Refusal) (stored : Stored) (old : Housed K) (new : HouseLogView) (pool : PoolCounts) (keeper : K) → IsHouse signs old → IsHouseLog old.house_log → IsHouseLog new
+    → Appended 0 (resumes entry said (ResumeAnswer.Refused refusal) stored) old.house_log new → MayResume old.house_log entry → HoldIs old.house_log held' → StoredAs (change_of old.house_log entry (ResumeAnswer.Refused refusal)) stored (signs.tells old.keeper) (signs.tells keeper) (signs.doubt keeper)
+    → pool.capacity ≡ old.pool.capacity → pool.free ≡ old.pool.free + blocks_in held' → IsHouse signs (record { house_log = new; places = old.places; pool = pool; keeper = keeper })
+house-refused signs entry held' said refusal stored old new pool keeper h o k a m hold s cap free =
     let event : Event = resumes entry said (ResumeAnswer.Refused refusal) stored in
     let legal = legal-after 0 event old.house_log new a k in
     let out = refused-held old.house_log entry held' said refusal stored o hold in
     let was = h.free in
-    house-next told doubted 0 event old (record { house_log = new; places = old.places; pool = pool; keeper = keeper }) h a k
+    house-next signs 0 event old (record { house_log = new; places = old.places; pool = pool; keeper = keeper }) h a k
     (record {
       count = refl;
       places = λ number place e.
-          place-same old.house_log.facts old.house_log.first (rows_before old.house_log) (past old) (event ∷ past old) number place
-          (quiet-board old.house_log.facts old.house_log.first (rows_before old.house_log) (past old) event o.stands.history legal number refl refl refl refl refl refl) (h.places number place e);
+          place-same (basis_in old.house_log) old.house_log.first (past old) (event ∷ past old) number place
+          (quiet-board (basis_in old.house_log) old.house_log.first (past old) event o.stands.history legal number refl refl refl refl refl refl) (h.places number place e);
       loaded = m.loaded;
-      kept = so-has old.house_log.reopened told doubted keeper _ _ (resume-keeps told doubted entry said (ResumeAnswer.Refused refusal) stored old keeper h o m s);
+      kept = so-has old.house_log.reopened signs keeper _ _ (resume-keeps signs entry said (ResumeAnswer.Refused refusal) stored old keeper h o m s);
       capacity = cap;
       free = omega (arith, out, was, free);
     })
 
 -- ---- a resumption that took its entry
 
-pub house-begun : {K : Type 0} (told : K → List Row → Type 0) (doubted : K → Option Change) (entry number : ℕ) (said : Option FetchNote) (old : Housed K) (new : HouseLogView) (keeper : K) → IsHouse told doubted old → IsHouseLog old.house_log → IsHouseLog new
-    → Appended 0 (resumes entry said ResumeAnswer.Begun Stored.Yes) old.house_log new → MayResume old.house_log entry → StoredAs (change_of old.house_log entry ResumeAnswer.Begun) Stored.Yes (told old.keeper) (told keeper) (doubted keeper)
-    → Takes old.house_log.facts (rows_before old.house_log) (past old) (resumes entry said ResumeAnswer.Begun Stored.Yes) entry number → number < length old.places → held (resumes entry said ResumeAnswer.Begun Stored.Yes ∷ past old) ≡ held (past old)
-    → IsHouse told doubted (record { house_log = new; places = places_without old.places number; pool = old.pool; keeper = keeper })
-house-begun told doubted entry number said old new keeper h o k a m s t within same =
+pub house-begun : {K : Type 0} (signs : KeeperSigns K) (entry number : ℕ) (said : Option FetchNote) (old : Housed K) (new : HouseLogView) (keeper : K) → IsHouse signs old → IsHouseLog old.house_log → IsHouseLog new
+    → Appended 0 (resumes entry said ResumeAnswer.Begun Stored.Yes) old.house_log new → MayResume old.house_log entry → StoredAs (change_of old.house_log entry ResumeAnswer.Begun) Stored.Yes (signs.tells old.keeper) (signs.tells keeper) (signs.doubt keeper)
+    → Takes (basis_in old.house_log) (past old) (resumes entry said ResumeAnswer.Begun Stored.Yes) entry number → number < length old.places → held (resumes entry said ResumeAnswer.Begun Stored.Yes ∷ past old) ≡ held (past old)
+    → IsHouse signs (record { house_log = new; places = places_without old.places number; pool = old.pool; keeper = keeper })
+house-begun signs entry number said old new keeper h o k a m s t within same =
     let event : Event = resumes entry said ResumeAnswer.Begun Stored.Yes in
     let legal = legal-after 0 event old.house_log new a k in
     let was = h.free in
-    house-next told doubted 0 event old (record { house_log = new; places = places_without old.places number; pool = old.pool; keeper = keeper }) h a k
+    house-next signs 0 event old (record { house_log = new; places = places_without old.places number; pool = old.pool; keeper = keeper }) h a k
     (record {
       count = length-set old.places number (record (place_at old.places number) { board = None });
-      places = takes-places old.house_log.facts old.house_log.first (rows_before old.house_log) (past old) event o.stands.history legal entry number t old.places within h.places;
+      places = takes-places (basis_in old.house_log) old.house_log.first (past old) event o.stands.history legal entry number t old.places within h.places;
       loaded = m.loaded;
-      kept = so-has old.house_log.reopened told doubted keeper _ _ (resume-keeps told doubted entry said ResumeAnswer.Begun Stored.Yes old keeper h o m s);
+      kept = so-has old.house_log.reopened signs keeper _ _ (resume-keeps signs entry said ResumeAnswer.Begun Stored.Yes old keeper h o m s);
       capacity = refl;
       free = omega (arith, same, was);
     })

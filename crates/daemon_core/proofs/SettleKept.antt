@@ -24,8 +24,8 @@ use Rattle.update_log.proofs.WaitsKept.{AllBegun, wait-kept}
 use Rattle.update_log.specs.Boards.{Board, devices}
 use Rattle.update_log.specs.Holding.{is_live, live}
 use Rattle.update_log.specs.Known.{Known, known, row_of, rows, view_of, views}
-use Rattle.update_log.specs.Legal.{QueryAllowed, can_judge, found_view, may_judge}
-use Rattle.update_log.specs.Core.{Core}
+use Rattle.update_log.specs.Legal.{can_judge, found_view, may_judge}
+use Rattle.core_state.specs.Core.{Core}
 use Rattle.update_log.specs.Pasts.{finished, past_of}
 use Rattle.update_log.specs.Steps.{view_of_row}
 use Rattle.update_log.specs.declared.event.Event.{Event}
@@ -33,7 +33,7 @@ use Rattle.update_log.specs.declared.event.Query.{Query}
 use Rattle.update_log.specs.declared.facts.Facts.{Facts}
 use Rattle.update_log.specs.declared.live.LiveEntry.{LiveEntry}
 use Rattle.daemon_core.specs.HouseLog.{IsAllowedSo, IsHouseLog}
-use Rattle.daemon_core.specs.Housed.{HouseLogView, past_in, rows_before}
+use Rattle.daemon_core.specs.Housed.{basis_in, campaign_in, HouseLogView, past_in}
 use Rattle.daemon_core.specs.Judging.{judged_by, judged_on, must_wait, standing, standing_of}
 use Rattle.daemon_core.specs.Settling.{device_row, row_found, row_on, row_to_settle, waiting_row}
 use Rattle.daemon_core.specs.declared.judged.DeviceRow.{DeviceRow}
@@ -128,15 +128,15 @@ settle-row a selector entry k h =
     let w = is-waiting a.core.views a.core.rows selector entry h in
     let passes = and_parts (bytes_eq w.row.device w.view.sheet.device) (is_unsettled w.row.state)
     (find-passes (λ (r : Row). bytes_eq r.device w.view.sheet.device && is_unsettled r.state) a.core.rows w.row w.row_is) in
-    let valid = (past-kept k.legal.0 (rows_before a) (past_in a) k.stands.history k.legal.3).rows_kept.valid.entries in
-    let own : AllByRecursion (λ (r : Row). row_of (rows a.facts (rows_before a) (past_in a)) r.entry ≡ Some r) (rows a.facts (rows_before a) (past_in a)) =
-    subst (λ (f : Facts). AllByRecursion (λ (r : Row). row_of (rows f (rows_before a) (past_in a)) r.entry ≡ Some r) (rows f (rows_before a) (past_in a))) k.legal.1 (found-own 1 (rows k.legal.0.facts (rows_before a) (past_in a)) valid) in
+    let valid = (past-kept (campaign_in a k.legal.0) (past_in a) k.stands.history k.legal.1).rows_kept.valid.entries in
+    let own : AllByRecursion (λ (r : Row). row_of (rows (basis_in a) (past_in a)) r.entry ≡ Some r) (rows (basis_in a) (past_in a)) =
+    found-own 1 (rows (basis_in a) (past_in a)) valid in
     let own' : AllByRecursion (λ (r : Row). row_of a.core.rows r.entry ≡ Some r) a.core.rows =
     subst (λ (rs : List Row). AllByRecursion (λ (r : Row). row_of rs r.entry ≡ Some r) rs) (sym k.stands.rows) own in
     let here : row_of a.core.rows w.row.entry ≡ Some w.row = All-find (λ (r : Row). row_of a.core.rows r.entry ≡ Some r) (λ (r : Row). bytes_eq r.device w.view.sheet.device && is_unsettled r.state) a.core.rows w.row own' w.row_is in
     let device : view_of_row a.core.views w.row ≡ Some w.view =
     subst (λ (vs : List DeviceView). view_of_row vs w.row ≡ Some w.view) (sym k.stands.views)
-    (found-device a.facts (live (past_in a)) (known a.facts (rows_before a) (past_in a)) selector w.view w.row
+    (found-device a.facts (live (past_in a)) (known (basis_in a) (past_in a)) selector w.view w.row
     (subst (λ (vs : List DeviceView). found_view vs selector ≡ Some w.view) k.stands.views w.view_is) (bytes-same w.row.device w.view.sheet.device passes.0)) in
     record {
       waiting = w;
@@ -233,12 +233,11 @@ live-begun rows (x ∷ xs) entry a h =
     (λ f. live-begun rows xs entry a.1 (rw f at h))
 
 -- The question, over what stands for the log.
-over-core : (a : HouseLogView) (client : ℕ) (selector : Selector) → IsHouseLog a → IfSome (found_view a.core.views selector) (λ view. list_any (can_judge (past_in a) view) a.core.rows ≡ false) → IsAllowedSo a.facts a.first (rows_before a) (past_in a) (Event.Query client (Query.Settle selector))
+over-core : (a : HouseLogView) (client : ℕ) (selector : Selector) → IsHouseLog a → IfSome (found_view a.core.views selector) (λ view. list_any (can_judge (past_in a) view) a.core.rows ≡ false) → IsAllowedSo (basis_in a) a.first (past_in a) (Event.Query client (Query.Settle selector))
 over-core a client selector k h =
-    λ c f i.
-    subst (λ (x : Facts). QueryAllowed x (rows_before a) (past_in a) (Query.Settle selector)) (sym f)
-    (subst (λ (vs : List DeviceView). IfSome (found_view vs selector) (λ view. list_any (can_judge (past_in a) view) (rows a.facts (rows_before a) (past_in a)) ≡ false)) k.stands.views
-    (subst (λ (rs : List Row). IfSome (found_view a.core.views selector) (λ view. list_any (can_judge (past_in a) view) rs ≡ false)) k.stands.rows h))
+    λ plans.
+    subst (λ (vs : List DeviceView). IfSome (found_view vs selector) (λ view. list_any (can_judge (past_in a) view) (rows (basis_in a) (past_in a)) ≡ false)) k.stands.views
+    (subst (λ (rs : List Row). IfSome (found_view a.core.views selector) (λ view. list_any (can_judge (past_in a) view) rs ≡ false)) k.stands.rows h)
 
 found-none : (past : List Event) (rows : List Row) (o : Option DeviceView) → row_on rows o ≡ DeviceRow.NoDevice → IfSome o (λ view. list_any (can_judge past view) rows ≡ false)
 found-none past rows None h = tt
@@ -265,14 +264,14 @@ found-nothing past rows (Some view) h = at (is_home view.seen) h
     at false h = cc
 
 -- The question of a device that isn't there, or of which each row is settled, may be asked.
-pub none-allowed : (a : HouseLogView) (client : ℕ) (selector : Selector) → IsHouseLog a → row_to_settle a selector ≡ DeviceRow.NoDevice → IsAllowedSo a.facts a.first (rows_before a) (past_in a) (Event.Query client (Query.Settle selector))
+pub none-allowed : (a : HouseLogView) (client : ℕ) (selector : Selector) → IsHouseLog a → row_to_settle a selector ≡ DeviceRow.NoDevice → IsAllowedSo (basis_in a) a.first (past_in a) (Event.Query client (Query.Settle selector))
 none-allowed a client selector k h = over-core a client selector k (found-none (past_in a) a.core.rows (found_view a.core.views selector) h)
 
-pub nothing-allowed : (a : HouseLogView) (client : ℕ) (selector : Selector) → IsHouseLog a → row_to_settle a selector ≡ DeviceRow.Nothing → IsAllowedSo a.facts a.first (rows_before a) (past_in a) (Event.Query client (Query.Settle selector))
+pub nothing-allowed : (a : HouseLogView) (client : ℕ) (selector : Selector) → IsHouseLog a → row_to_settle a selector ≡ DeviceRow.Nothing → IsAllowedSo (basis_in a) a.first (past_in a) (Event.Query client (Query.Settle selector))
 nothing-allowed a client selector k h = over-core a client selector k (found-nothing (past_in a) a.core.rows (found_view a.core.views selector) h)
 
 -- So may that of a device whose row must wait.
-pub waits-allowed : (a : HouseLogView) (client : ℕ) (selector : Selector) (entry : ℕ) → IsHouseLog a → SettleRow a selector entry → standing_of a entry ≡ Some Standing.Waits → IsAllowedSo a.facts a.first (rows_before a) (past_in a) (Event.Query client (Query.Settle selector))
+pub waits-allowed : (a : HouseLogView) (client : ℕ) (selector : Selector) (entry : ℕ) → IsHouseLog a → SettleRow a selector entry → standing_of a entry ≡ Some Standing.Waits → IsAllowedSo (basis_in a) a.first (past_in a) (Event.Query client (Query.Settle selector))
 waits-allowed a client selector entry k s h =
     let w = s.waiting in
     let e : Some (standing (past_in a) a.core.views entry w.row) ≡ Some Standing.Waits = rw s.row_is at h in
@@ -280,7 +279,7 @@ waits-allowed a client selector entry k s h =
     waits-so w.row (is_unsettled w.row.state) (must_wait (past_in a) entry w.row.state) (view_of_row a.core.views w.row) (same_Some (standing (past_in a) a.core.views entry w.row) Standing.Waits e) in
     let begun : AllBegun a.core.rows (live (past_in a)) =
     subst (λ (rs : List Row). AllBegun rs (live (past_in a))) (sym k.stands.rows)
-    (subst (λ (f : Facts). AllBegun (rows f (rows_before a) (past_in a)) (live (past_in a))) k.legal.1 (wait-kept k.legal.0 (rows_before a) (past_in a) k.stands.history k.legal.3).begun) in
+    (wait-kept (campaign_in a k.legal.0) (past_in a) k.stands.history k.legal.1).begun in
     let not-live : w.row.state ≡ RowState.NeedsReboot → is_live (live (past_in a)) entry ≡ false =
     λ n. by_test (is_live (live (past_in a)) entry) _
     (λ t. let b : state_of a.core.rows entry ≡ Some RowState.Begun = live-begun a.core.rows (live (past_in a)) entry begun t in
@@ -289,7 +288,7 @@ waits-allowed a client selector entry k s h =
     (λ f. f) in
     let may : may_judge (past_in a) w.row.state w.row.entry ≡ false = subst (λ (x : ℕ). may_judge (past_in a) w.row.state x ≡ false) (sym w.entry_is) (waits-not (past_in a) entry w.row.state must not-live) in
     let differ = subst (λ (rs : List Row). AllPairs (λ x y. BothUnsettled x y → ⊥) rs) (sym k.stands.rows)
-    (subst (λ (f : Facts). AllPairs (λ x y. BothUnsettled x y → ⊥) (rows f (rows_before a) (past_in a))) k.legal.1 (rows-history k.legal.0 (rows_before a) (past_in a) k.stands.history k.legal.3).unsettled) in
+    (rows-history (campaign_in a k.legal.0) (past_in a) k.stands.history k.legal.1).unsettled in
     over-core a client selector k
     (rw w.view_is (one-waits (past_in a) w.view a.core.rows w.row (λ i j d l m. differ i j d l m) w.row_is may))
 
@@ -303,10 +302,10 @@ some-over a core selector entry e s = subst (λ (x : Core). IsSome (row_of x.row
 pub standing-over : (a : HouseLogView) (core : Core) (entry : ℕ) (found : Standing) → core ≡ a.core → option_map (standing (past_of core.log) core.views entry) (row_of core.rows entry) ≡ Some found → standing_of a entry ≡ Some found
 standing-over a core entry found e h = subst (λ (x : Core). option_map (standing (past_of x.log) x.views entry) (row_of x.rows entry) ≡ Some found) e h
 
-pub event-over : (a b : HouseLogView) (client : ℕ) (selector : Selector) (event : Event) → a ≡ b → event ≡ Event.Query client (Query.Settle selector) → IsAllowedSo a.facts a.first (rows_before a) (past_in a) (Event.Query client (Query.Settle selector)) → IsAllowedSo b.facts b.first (rows_before b) (past_in b) event
+pub event-over : (a b : HouseLogView) (client : ℕ) (selector : Selector) (event : Event) → a ≡ b → event ≡ Event.Query client (Query.Settle selector) → IsAllowedSo (basis_in a) a.first (past_in a) (Event.Query client (Query.Settle selector)) → IsAllowedSo (basis_in b) b.first (past_in b) event
 event-over a b client selector event e q h =
-    subst (λ (x : HouseLogView). IsAllowedSo x.facts x.first (rows_before x) (past_in x) event) e
-    (subst (λ (x : Event). IsAllowedSo a.facts a.first (rows_before a) (past_in a) x) (sym q) h)
+    subst (λ (x : HouseLogView). IsAllowedSo (basis_in x) x.first (past_in x) event) e
+    (subst (λ (x : Event). IsAllowedSo (basis_in a) a.first (past_in a) x) (sym q) h)
 
 pub found-over : (a : HouseLogView) (core : Core) (selector : Selector) (found : DeviceRow) → core ≡ a.core → found ≡ device_row core.views core.rows selector → row_to_settle a selector ≡ found
 found-over a core selector found e h = sym (h ∙ ap (λ (x : Core). device_row x.views x.rows selector) e)

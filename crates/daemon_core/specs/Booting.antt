@@ -3,17 +3,17 @@ use Rattle.std.specs.Prelude.{◌≡◌, ◌≤◌, ◌+◌, ℕ, Bool, true, Li
 use Rattle.fw_facts.specs.declared.seen.Seen.{Seen}
 use Rattle.history_keeper.specs.declared.row.Row.{Row}
 use Rattle.update_log.specs.declared.event.Event.{Event}
-use Rattle.update_log.specs.declared.facts.Facts.{Facts}
 use Rattle.emulated_boards.specs.Boards.{BoardState, SameRecords}
 use Rattle.emulated_boards.specs.Conditions.{booted, view_of}
 use Rattle.update_log.specs.declared.event.BoardSeen.{BoardSeen}
 use Rattle.update_log.specs.declared.facts.BootPlan.{BootPlan}
 use Rattle.update_log.specs.Legal.{BoardListed, is_absent}
 use Rattle.update_log.specs.Crashes.{next_boot}
+use Rattle.update_log.specs.Known.{Basis}
 use Rattle.update_log.specs.declared.event.Found.{Found}
 use Rattle.daemon_core.specs.HouseLog.{Appended}
 use Rattle.daemon_core.specs.Boards.{PlaceStands}
-use Rattle.daemon_core.specs.Housed.{HouseLogView, Place, past_in, rows_before}
+use Rattle.daemon_core.specs.Housed.{basis_in, HouseLogView, Place, past_in}
 use Rattle.daemon_core.specs.Keeping.{still_reopened}
 
 -- The board of a place can be started: it is at home, and at most two marks of its journal weren't told.
@@ -57,9 +57,9 @@ pub record AllStarted (plan : BootPlan) (old new : List Place) (listed : List Bo
   pub each : (number : ℕ) (place : Place) → slice_get old number ≡ Some place → StartedAt plan number place new listed
 
 -- A boot lists each board as it may.
-pub record AllListed (facts : Facts) (first : List Seen) (opening : List Row) (past : List Event) (plan : BootPlan) (boards : List BoardSeen) : Type 0 where
-  pub count : length boards ≡ length facts.sheets
-  pub each : (number : ℕ) (b : BoardSeen) → slice_get boards number ≡ Some b → BoardListed facts first opening past plan number b
+pub record AllListed (basis : Basis) (first : List Seen) (past : List Event) (plan : BootPlan) (boards : List BoardSeen) : Type 0 where
+  pub count : length boards ≡ length basis.facts.sheets
+  pub each : (number : ℕ) (b : BoardSeen) → slice_get boards number ≡ Some b → BoardListed basis first past plan number b
 
 -- The house log over these rows.
 abbrev pub opened : List Row → ℕ → HouseLogView → HouseLogView
@@ -68,7 +68,7 @@ opened rows row_room a = record a { opening = rows; loaded = true; core = record
 -- Each board stands to the log.
 pub record PlacesStand (a : HouseLogView) (places : List Place) : Type 0 where
   pub count : length places ≡ length a.facts.sheets
-  pub each : (number : ℕ) (place : Place) → slice_get places number ≡ Some place → PlaceStands a.facts a.first (rows_before a) (past_in a) number place
+  pub each : (number : ℕ) (place : Place) → slice_get places number ≡ Some place → PlaceStands (basis_in a) a.first (past_in a) number place
 
 -- Each board was started, and the boot put behind the log. One that read the history says what became of
 -- the change in doubt.

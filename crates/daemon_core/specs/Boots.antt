@@ -1,9 +1,9 @@
 -- What a boot of a house did.
-use Rattle.std.specs.Prelude.{◌≡◌, ◌≤◌, ◌<◌, ◌+◌, ◌-◌, ◌^◌, ℕ, length, true, false, MatchBool, List, [], ◌∷◌, ◌++◌, Option, None, Result, Ok, Err}
-use Rattle.history_keeper.specs.declared.change.Change.{Change}
+use Rattle.std.specs.Prelude.{◌≡◌, ◌≤◌, ◌<◌, ◌+◌, ◌-◌, ◌^◌, ℕ, length, true, false, MatchBool, List, [], ◌∷◌, ◌++◌, None, Result, Ok, Err}
 use Rattle.history_keeper.specs.declared.row.Row.{Row}
 use Rattle.history_keeper.specs.Histories.{IsFirstFaulty, IsHistory}
 use Rattle.history_keeper.specs.Keepers.{StillTold}
+use Rattle.history_keeper.specs.Signs.{KeeperSigns}
 use Rattle.update_log.specs.Crashes.{next_boot}
 use Rattle.update_log.specs.declared.event.BoardSeen.{BoardSeen}
 use Rattle.update_log.specs.declared.event.Found.{Found}
@@ -42,14 +42,14 @@ pub record NoBoot {K : Type 0} (told : K → List Row → Type 0) (old new : Hou
 -- A boot that went well. The first one took the rows that the keeper told for those before the log, and the
 -- keeper has the rows of the log, without a doubt: a later one says what became of a change in doubt, as the
 -- reopened store showed it.
-pub record WentWell {K : Type 0} (told : K → List Row → Type 0) (doubted : K → Option Change) (settled : K → K → Type 0) (plan : BootPlan) (found : Found) (listed : List BoardSeen) (old new : Housed K) : Type 0 where
+pub record WentWell {K : Type 0} (signs : KeeperSigns K) (settled : K → K → Type 0) (plan : BootPlan) (found : Found) (listed : List BoardSeen) (old new : Housed K) : Type 0 where
   pub noted : BootNoted plan found listed old new
   pub read : is_found_fault found ≡ false
   pub loaded : new.house_log.loaded ≡ true
   pub reopened : new.house_log.reopened ≡ false
-  pub opening : MatchBool old.house_log.loaded (new.house_log.opening ≡ old.house_log.opening) (IsHistory new.house_log.opening × AreTold (told old.keeper) (told new.keeper) new.house_log.opening)
-  pub shown : old.house_log.loaded ≡ true → WasShown told settled new.house_log.core.rows old.keeper new.keeper
-  pub keeps : HasRows told doubted new.keeper new.house_log.core.rows None
+  pub opening : MatchBool old.house_log.loaded (new.house_log.opening ≡ old.house_log.opening) (IsHistory new.house_log.opening × AreTold (signs.tells old.keeper) (signs.tells new.keeper) new.house_log.opening)
+  pub shown : old.house_log.loaded ≡ true → WasShown signs.tells settled new.house_log.core.rows old.keeper new.keeper
+  pub keeps : HasRows signs new.keeper new.house_log.core.rows None
 
 -- A boot that couldn't read the history. While no boot took the rows, the keeper tells those that it told.
 pub record CouldntRead {K : Type 0} (told : K → List Row → Type 0) (plan : BootPlan) (listed : List BoardSeen) (old new : Housed K) : Type 0 where
@@ -73,18 +73,18 @@ pub record ReadOthers {K : Type 0} (told : K → List Row → Type 0) (entry : �
       × ((loaded : List Row) × AreOthers entry loaded old.house_log.core.rows old.house_log.core.doubt)
 
 -- What a boot did, by its answer.
-abbrev pub BootTurned : {A K : Type 0} → (K → List Row → Type 0) → (K → Option Change) → (K → K → Type 0) → BootPlan → Result A BootStop → Housed K → Housed K → Type 0
-BootTurned told doubted settled plan (Ok _) old new = (found : Found) × (listed : List BoardSeen) × WentWell told doubted settled plan found listed old new
-BootTurned told doubted settled plan (Err BootStop.KeeperFault) old new = (listed : List BoardSeen) × CouldntRead told plan listed old new
-BootTurned told doubted settled plan (Err (BootStop.BadHistory entry)) old new = ReadOthers told entry old new
-BootTurned told doubted settled plan (Err BootStop.NoMemory) old new = NoBoot told old new × (new.house_log.opening ≡ old.house_log.opening)
+abbrev pub BootTurned : {A K : Type 0} → KeeperSigns K → (K → K → Type 0) → BootPlan → Result A BootStop → Housed K → Housed K → Type 0
+BootTurned signs settled plan (Ok _) old new = (found : Found) × (listed : List BoardSeen) × WentWell signs settled plan found listed old new
+BootTurned signs settled plan (Err BootStop.KeeperFault) old new = (listed : List BoardSeen) × CouldntRead signs.tells plan listed old new
+BootTurned signs settled plan (Err (BootStop.BadHistory entry)) old new = ReadOthers signs.tells entry old new
+BootTurned signs settled plan (Err BootStop.NoMemory) old new = NoBoot signs.tells old new × (new.house_log.opening ≡ old.house_log.opening)
 
 -- A boot that found this can be put behind the log: no client has anything out, there is room for it and
 -- for its boards, and its time and number fit.
-pub record IsReady {K : Type 0} (told : K → List Row → Type 0) (doubted : K → Option Change) (plan : BootPlan) (found : Found) (listed : List BoardSeen) (capacity : ℕ) (h : Housed K) : Type 0 where
+pub record IsReady {K : Type 0} (signs : KeeperSigns K) (plan : BootPlan) (found : Found) (listed : List BoardSeen) (capacity : ℕ) (h : Housed K) : Type 0 where
   pub holds : holds (past h) ≡ []
   pub live : live (past h) ≡ []
-  pub can : CanBoot told doubted found h
+  pub can : CanBoot signs found h
   pub empty : listed ≡ []
   pub enough : length h.places ≤ capacity
   pub room : 2 ≤ h.house_log.room

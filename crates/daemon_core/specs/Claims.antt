@@ -9,7 +9,7 @@ use Rattle.history_keeper.specs.declared.row.Row.{Row}
 use Rattle.history_keeper.specs.declared.row.RowState.{RowState}
 use Rattle.update_log.specs.Boards.{board_with}
 use Rattle.update_log.specs.Holding.{hold, live, step_open}
-use Rattle.update_log.specs.Known.{addition, known, target, views}
+use Rattle.update_log.specs.Known.{Basis, addition, known, target, views}
 use Rattle.update_log.specs.Legal.{ClaimAnswered, next_entry}
 use Rattle.update_log.specs.Pasts.{boots, time_of}
 use Rattle.update_log.specs.Steps.{trace}
@@ -32,7 +32,7 @@ use Rattle.daemon_core.specs.HouseLog.{Runs}
 use Rattle.daemon_core.specs.Boards.{is_out}
 use Rattle.daemon_core.specs.Fetches.{block_count, note_of}
 use Rattle.daemon_core.specs.Holds.{held_by}
-use Rattle.daemon_core.specs.Housed.{HouseLogView, Housed, Place, past_in, rows_before}
+use Rattle.daemon_core.specs.Housed.{basis_in, HouseLogView, Housed, Place, past_in}
 use Rattle.daemon_core.specs.Owed.{owed}
 use Rattle.daemon_core.specs.PutOff.{IsAccept}
 use Rattle.daemon_core.specs.Returns.{ComesHome, place_at}
@@ -92,20 +92,20 @@ pub record IsServedBy (facts : Facts) (number plugin : ℕ) : Type 0 where
 
 -- An entry was taken: it is the client's live one, with no step yet; its board stands to the log, and
 -- has room for eight marks.
-pub record IsTaken (facts : Facts) (first : List Seen) (opening : List Row) (past : List Event) (client : ℕ) (taken : Taken) (number : ℕ) : Type 0 where
+pub record IsTaken (basis : Basis) (first : List Seen) (past : List Event) (client : ℕ) (taken : Taken) (number : ℕ) : Type 0 where
   pub l : LiveEntry
-  pub comes : ComesHome facts first opening past client taken.entry number l [] taken.board taken.payload.count
+  pub comes : ComesHome basis first past client taken.entry number l [] taken.board taken.payload.count
   pub closed : step_open past taken.entry ≡ None
-  pub traced : trace facts opening taken.entry past ≡ Some taken.trace
+  pub traced : trace basis taken.entry past ≡ Some taken.trace
   pub no_steps : taken.trace.steps ≡ []
   pub marks : 8 ≤ taken.board.room
-  pub served : IsServedBy facts number taken.plugin
+  pub served : IsServedBy basis.facts number taken.plugin
 
 -- The entry was taken in this house log, and its board went out: it is that of its place, which may have
 -- got more room.
 abbrev pub TakenFrom : ℕ → Taken → List Place → HouseLogView → List Place → Type 0
 TakenFrom client taken places a after =
-    (number : ℕ) × IsTaken a.facts a.first (rows_before a) (past_in a) client taken number
+    (number : ℕ) × IsTaken (basis_in a) a.first (past_in a) client taken number
     × RoomierPlaces (places_without places number) after × RoomierBoard (place_at places number).board (Some taken.board)
 
 -- What became of the boards and the blocks: a board that is taken goes out, and the blocks of a claim
@@ -133,22 +133,22 @@ pub record MayClaim (a : HouseLogView) (client : ℕ) (ticket : Ticket) (blocks 
 
 -- What is decided of its request then, and an answer that it may get.
 abbrev pub claim_verdict : HouseLogView → ℕ → Ticket → Decision
-claim_verdict a client ticket = verdict a.facts (rows_before a) (past_in a) client ticket.request (Stage.Claim ticket.release)
+claim_verdict a client ticket = verdict (basis_in a) (past_in a) client ticket.request (Stage.Claim ticket.release)
 
 abbrev pub MayAnswer : HouseLogView → ℕ → Ticket → FetchNote → ClaimAnswer → Type 0
 MayAnswer a client ticket note answer =
-    ClaimAnswered note (target a.facts (views a.facts (rows_before a) (past_in a)) ticket.request) (next_entry a.facts (rows_before a) (past_in a)) (claim_verdict a client ticket) answer
+    ClaimAnswered note (target a.facts (views (basis_in a) (past_in a)) ticket.request) (next_entry (basis_in a) (past_in a)) (claim_verdict a client ticket) answer
 
 -- The board of a device: it has that ID, and is home.
-pub record DeviceHome (facts : Facts) (opening : List Row) (past : List Event) (device : List ℕ) (number : ℕ) : Type 0 where
-  pub board_is : board_with facts device ≡ Some number
-  pub home : is_out facts opening past number ≡ false
+pub record DeviceHome (basis : Basis) (past : List Event) (device : List ℕ) (number : ℕ) : Type 0 where
+  pub board_is : board_with basis.facts device ≡ Some number
+  pub home : is_out basis past number ≡ false
 
 -- The row of a request that was accepted, which is to be stored, and its board.
 pub record IsToStore (a : HouseLogView) (client : ℕ) (ticket : Ticket) (row : Row) (number : ℕ) : Type 0 where
   pub accepted : IsAccept (claim_verdict a client ticket)
-  pub added : addition a.facts (time_of (past_in a)) (live (past_in a)) (known a.facts (rows_before a) (past_in a)) client ticket.request RowState.Begun ≡ Some (Change.Add row)
+  pub added : addition a.facts (time_of (past_in a)) (live (past_in a)) (known (basis_in a) (past_in a)) client ticket.request RowState.Begun ≡ Some (Change.Add row)
   pub entry_is : row.entry ≡ length a.core.rows + 1
   pub suits : Suits (Change.Add row) a.core.rows
   pub timely : IsTimely (Change.Add row)
-  pub board : DeviceHome a.facts (rows_before a) (past_in a) row.device number
+  pub board : DeviceHome (basis_in a) (past_in a) row.device number

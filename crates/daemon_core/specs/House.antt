@@ -1,27 +1,26 @@
 -- What the type of a house keeps.
-use Rattle.std.specs.Prelude.{◌≡◌, ◌+◌, ℕ, true, false, List, [], length, map, Option, Some, None, slice_get}
+use Rattle.std.specs.Prelude.{◌≡◌, ◌+◌, ℕ, true, false, List, [], length, map, Some, None, slice_get}
 use Rattle.block_pool.specs.Views.{PoolCounts}
 use Rattle.emulated_boards.specs.Boards.{BoardState}
 use Rattle.emulated_boards.specs.Conditions.{fresh, view_of}
 use Rattle.emulated_boards.specs.declared.image.Image.{Image}
 use Rattle.fw_facts.specs.declared.seen.Seen.{Seen}
-use Rattle.history_keeper.specs.declared.row.Row.{Row}
-use Rattle.history_keeper.specs.declared.change.Change.{Change}
+use Rattle.history_keeper.specs.Signs.{KeeperSigns}
 use Rattle.update_log.specs.declared.facts.Facts.{Facts}
 use Rattle.update_log.specs.Holding.{held}
 use Rattle.daemon_core.specs.HouseLog.{IsBlank}
-use Rattle.daemon_core.specs.Housed.{Housed, Place, past, rows_before}
+use Rattle.daemon_core.specs.Housed.{basis_in, Housed, Place, past}
 use Rattle.daemon_core.specs.Boards.{PlaceStands}
 use Rattle.daemon_core.specs.Keeping.{KeepsSo}
 
 -- What the type of a house keeps beside its house log: the boards at home fit the log; the keeper has its
 -- rows, once a boot took those that it loaded, or was opened again where the house log says so, and is in no
 -- doubt before; and the free blocks are those that nobody holds.
-pub record IsHouse {K : Type 0} (told : K → List Row → Type 0) (doubted : K → Option Change) (h : Housed K) : Type 0 where
+pub record IsHouse {K : Type 0} (signs : KeeperSigns K) (h : Housed K) : Type 0 where
   pub count : length h.places ≡ length h.house_log.facts.sheets
-  pub places : (number : ℕ) (place : Place) → slice_get h.places number ≡ Some place → PlaceStands h.house_log.facts h.house_log.first (rows_before h.house_log) (past h) number place
-  pub unloaded : h.house_log.loaded ≡ false → doubted h.keeper ≡ None
-  pub kept : h.house_log.loaded ≡ true → KeepsSo h.house_log.reopened told doubted h.keeper h.house_log.core.rows h.house_log.core.doubt
+  pub places : (number : ℕ) (place : Place) → slice_get h.places number ≡ Some place → PlaceStands (basis_in h.house_log) h.house_log.first (past h) number place
+  pub unloaded : h.house_log.loaded ≡ false → signs.doubt h.keeper ≡ None
+  pub kept : h.house_log.loaded ≡ true → KeepsSo h.house_log.reopened signs h.keeper h.house_log.core.rows h.house_log.core.doubt
   pub capacity : h.pool.capacity ≡ h.house_log.facts.pool
   pub free : h.pool.free + held (past h) ≡ h.house_log.facts.pool
 

@@ -1,28 +1,26 @@
 -- What the type of the house log keeps.
 use Rattle.std.specs.Prelude.{◌≡◌, ◌≤◌, ◌<◌, ◌+◌, ◌^◌, ◌-◌, ℕ, true, false, List, [], ◌∷◌, ◌++◌, length, Result, Ok, Err, IfSome, ◌⊎◌}
 use Rattle.fw_facts.specs.declared.seen.Seen.{Seen}
-use Rattle.history_keeper.specs.declared.row.Row.{Row}
 use Rattle.update_log.specs.declared.event.Event.{Event}
 use Rattle.update_log.specs.declared.facts.Facts.{Facts}
-use Rattle.update_log.specs.Core.{Stands}
-use Rattle.update_log.specs.CoreFolds.{AllFaults}
+use Rattle.core_state.specs.Core.{Stands}
+use Rattle.update_log.specs.Pasts.{AllFaults, boots, client_of, off, time_of}
 use Rattle.update_log.specs.Legal.{Allowed, BelowLimit, IsLegal}
-use Rattle.update_log.specs.Pasts.{boots, client_of, off, time_of}
-use Rattle.update_log.specs.Shows.{Campaign}
-use Rattle.daemon_core.specs.Housed.{HouseLogView, past_in, rows_before}
+use Rattle.update_log.specs.declared.facts.BootPlan.{BootPlan}
+use Rattle.update_log.specs.Shows.{campaign_on}
+use Rattle.update_log.specs.Known.{Basis}
+use Rattle.daemon_core.specs.Housed.{basis_in, HouseLogView, past_in}
 use Rattle.daemon_core.specs.Owed.{owed}
 use Rattle.daemon_core.specs.declared.stop.Stop.{Stop}
 
--- The past is legal in some campaign with these facts and first images: the plans of its boots are those
--- that it was given.
-abbrev pub IsLegalSo : Facts → List Seen → List Row → List Event → Type 0
-IsLegalSo facts first opening past =
-    (c : Campaign) × (c.facts ≡ facts) × (c.first ≡ first) × IsLegal c opening past
+-- The past is legal in some campaign over this basis with these first images: the plans of its boots are
+-- those that it was given.
+abbrev pub IsLegalSo : Basis → List Seen → List Event → Type 0
+IsLegalSo basis first past = (plans : List BootPlan) × IsLegal (campaign_on basis first plans) past
 
 -- The event may come after the past as its kind wants it, whatever the plans of the boots are.
-abbrev pub IsAllowedSo : Facts → List Seen → List Row → List Event → Event → Type 0
-IsAllowedSo facts first opening past event =
-    (c : Campaign) → c.facts ≡ facts → c.first ≡ first → Allowed c opening past event
+abbrev pub IsAllowedSo : Basis → List Seen → List Event → Event → Type 0
+IsAllowedSo basis first past event = (plans : List BootPlan) → Allowed (campaign_on basis first plans) past event
 
 -- Each event of a client was made by that client. A boot's maker is the daemon, and a cut's the client
 -- that met it.
@@ -39,8 +37,8 @@ MadeBy (event ∷ log) (maker ∷ makers) = IsMadeBy event maker × MadeBy log m
 -- a boot that couldn't read the history, and the keeper wasn't opened again; and there is room for what
 -- must not want memory.
 pub record IsHouseLog (a : HouseLogView) : Type 0 where
-  pub legal : IsLegalSo a.facts a.first (rows_before a) (past_in a)
-  pub stands : Stands a.facts (rows_before a) a.core
+  pub legal : IsLegalSo (basis_in a) a.first (past_in a)
+  pub stands : Stands (basis_in a) a.core
   pub makers : MadeBy a.core.log a.makers
   pub few : length a.facts.sheets ≤ 256
   pub firsts : length a.first ≡ length a.facts.sheets

@@ -6,8 +6,11 @@ use Rattle.emulated_boards.specs.Boards.{BoardState}
 use Rattle.history_keeper.specs.declared.row.Row.{Row}
 use Rattle.update_log.specs.declared.event.Event.{Event}
 use Rattle.update_log.specs.declared.facts.Facts.{Facts}
-use Rattle.update_log.specs.Core.{Core}
+use Rattle.update_log.specs.declared.facts.BootPlan.{BootPlan}
+use Rattle.core_state.specs.Core.{Core}
+use Rattle.update_log.specs.Shows.{Campaign, campaign_on}
 use Rattle.update_log.specs.Pasts.{past_of}
+use Rattle.update_log.specs.Known.{Basis, basis_of}
 
 -- The facts, what each first image shows, the rows that a boot loaded and whether one took them for
 -- the rows before the log, whether the keeper was opened again and no boot behind the log says yet what
@@ -30,6 +33,13 @@ rows_taken false opening = []
 
 abbrev pub rows_before : HouseLogView → List Row
 rows_before a = rows_taken a.loaded a.opening
+
+-- What its log stands on, and a campaign over that, whose boots have these plans.
+abbrev pub basis_in : HouseLogView → Basis
+basis_in a = basis_of a.facts (rows_before a)
+
+abbrev pub campaign_in : HouseLogView → List BootPlan → Campaign
+campaign_in a plans = campaign_on (basis_in a) a.first plans
 
 -- The log read backwards.
 abbrev pub past_in : HouseLogView → List Event

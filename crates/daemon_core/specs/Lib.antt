@@ -1,6 +1,7 @@
 pub mod Housed
 pub mod Owed
 pub mod HouseLog
+pub mod Openings
 pub mod Boards
 pub mod Booting
 pub mod Comparing
@@ -33,10 +34,10 @@ pub use Rattle.emulated_boards.specs.Images
 pub use Rattle.history_keeper.specs.Changes
 pub use Rattle.history_keeper.specs.Histories
 pub use Rattle.history_keeper.specs.Keepers
+pub use Rattle.history_keeper.specs.Signs
 pub use Rattle.update_log.specs.Boards as UpdateLogBoards
-pub use Rattle.update_log.specs.Core
-pub use Rattle.update_log.specs.CoreFolds
-pub use Rattle.update_log.specs.CoreSteps
+pub use Rattle.core_state.specs.Core
+pub use Rattle.core_state.specs.CoreSteps
 pub use Rattle.update_log.specs.Crashes
 pub use Rattle.update_log.specs.Holding
 pub use Rattle.update_log.specs.Known

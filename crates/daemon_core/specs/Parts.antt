@@ -3,7 +3,7 @@ use Rattle.std.specs.Prelude.{◌≡◌, ℕ, IsSome, List, [], ◌∷◌, lengt
 use Rattle.emulated_boards.specs.Boards.{BoardState}
 use Rattle.emulated_boards.specs.declared.mark.Mark.{Mark}
 use Rattle.daemon_core.specs.Boards.{BoardStands}
-use Rattle.daemon_core.specs.Housed.{Housed, Place, past, rows_before}
+use Rattle.daemon_core.specs.Housed.{basis_in, Housed, Place, past}
 
 -- All boards are at home.
 abbrev pub AllHome : List Place → Type 0
@@ -25,7 +25,7 @@ pub record IsBoardOf {K : Type 0} (h : Housed K) (number : ℕ) (board : BoardSt
   pub place_is : slice_get h.places number ≡ Some place
   pub board_is : place.board ≡ Some board
   pub tail : List Mark
-  pub stands : BoardStands h.house_log.facts h.house_log.first (rows_before h.house_log) (past h) number board tail
+  pub stands : BoardStands (basis_in h.house_log) h.house_log.first (past h) number board tail
 
 -- Each of these boards is that of its place, and stands to the log of the house; there is one for each
 -- sheet.

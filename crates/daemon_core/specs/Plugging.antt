@@ -6,7 +6,7 @@ use Rattle.emulated_boards.specs.Conditions.{view_of}
 use Rattle.emulated_boards.specs.declared.condition.Condition.{Condition}
 use Rattle.fw_facts.specs.declared.seen.Seen.{Seen}
 use Rattle.update_log.specs.declared.answer.PlugAnswer.{PlugAnswer}
-use Rattle.update_log.specs.CoreSteps.{board_on}
+use Rattle.core_state.specs.CoreSteps.{board_on}
 use Rattle.daemon_core.specs.Housed.{HouseLogView, Place}
 use Rattle.daemon_core.specs.Quiet.{moves_none}
 use Rattle.daemon_core.specs.declared.stop.Stop.{Stop}

@@ -25,7 +25,7 @@ use Rattle.daemon_core.specs.HouseLog.{Appended, Runs, Unchanged}
 use Rattle.daemon_core.specs.Claims.{DeviceHome, RoomierPlaces, TakenFrom}
 use Rattle.daemon_core.specs.Fetches.{IsFetchOf, block_count, note_of}
 use Rattle.daemon_core.specs.Holds.{held_by}
-use Rattle.daemon_core.specs.Housed.{HouseLogView, Housed, past_in, rows_before}
+use Rattle.daemon_core.specs.Housed.{basis_in, HouseLogView, Housed, past_in}
 use Rattle.daemon_core.specs.Owed.{owed}
 use Rattle.daemon_core.specs.PutOff.{IsAccept}
 use Rattle.daemon_core.specs.Turns.{WentOff}
@@ -111,7 +111,7 @@ pub record MayResume (a : HouseLogView) (entry : ℕ) : Type 0 where
 
 -- What is decided of a hold's request then.
 abbrev pub resume_verdict : HouseLogView → ℕ → Ticket → Decision
-resume_verdict a entry ticket = verdict a.facts (rows_before a) (past_in a) 0 ticket.request (Stage.Resume entry ticket.release)
+resume_verdict a entry ticket = verdict (basis_in a) (past_in a) 0 ticket.request (Stage.Resume entry ticket.release)
 
 -- What came in is the daemon's hold, or it has none.
 abbrev pub HoldIs : HouseLogView → Option (Ticket × Fetched) → Type 0
@@ -121,7 +121,7 @@ HoldIs a None = hold (past_in a) 0 ≡ None
 -- The resumption may be refused so, and not for the keeper's fault.
 pub record MayFail (a : HouseLogView) (entry : ℕ) (held : Option (Ticket × Fetched)) (refusal : Refusal) : Type 0 where
   pub hold_is : HoldIs a held
-  pub fetched : ResumeFetched a.facts (rows_before a) (past_in a) entry (note_in held) (ResumeAnswer.Refused refusal)
+  pub fetched : ResumeFetched (basis_in a) (past_in a) entry (note_in held) (ResumeAnswer.Refused refusal)
   pub other : is_keeper_fault refusal ≡ false
 
 -- The row begins: its request is accepted, its payload is whole, and the board of its device is home.
@@ -129,7 +129,7 @@ pub record IsToResume (a : HouseLogView) (entry : ℕ) (ticket : Ticket) (payloa
   pub may : MayResume a entry
   pub hold_is : IsOpenHold a entry ticket (Fetched.Whole payload)
   pub accepted : IsAccept (resume_verdict a entry ticket)
-  pub board : DeviceHome a.facts (rows_before a) (past_in a) may.put_off.row.device number
+  pub board : DeviceHome (basis_in a) (past_in a) may.put_off.row.device number
 
 -- The events of a row that begins, whose begin is in doubt, and that fails.
 abbrev pub begun_event : ℕ → FetchNote → Event

@@ -1,6 +1,7 @@
 -- What one call of a house did.
 use Rattle.std.specs.Prelude.{◌≡◌, ◌⊎◌, ◌≤◌, ◌+◌, ◌-◌, ◌^◌, ℕ, true, false, List, Result, Ok, Err}
 use Rattle.history_keeper.specs.declared.row.Row.{Row}
+use Rattle.history_keeper.specs.Signs.{KeeperSigns}
 use Rattle.update_log.specs.declared.event.Event.{Event}
 use Rattle.update_log.specs.Pasts.{off}
 use Rattle.daemon_core.specs.declared.stop.Stop.{Stop}
@@ -21,21 +22,13 @@ Turned client event (Ok answer) old new = Runs old × Appended client (event ans
 Turned client event (Err Stop.Off) old new = WentOff client old new
 Turned client event (Err Stop.NoMemory) old new = (off (past_in old) ≡ false) × Unchanged old new
 
--- What a keeper shows: the rows that it tells, and how many faults it counted.
-pub record Signs (K : Type 0) : Type 1 where
-  pub tells : K → List Row → Type 0
-  pub faults : K → ℕ
-
-abbrev pub signs_of : {K : Type 0} → (K → List Row → Type 0) → (K → ℕ) → Signs K
-signs_of tells faults = record { tells = tells; faults = faults }
-
 -- A keeper that tells rows now told rows before.
 abbrev pub ToldBefore : {K : Type 0} → (K → List Row → Type 0) → K → K → Type 0
 ToldBefore told old new = (all : List Row) → told new all → (before : List Row) × told old before
 
 -- What the log tells of the keeper's faults is what it counted: its count rose by as many as the log gained, or
 -- stands at its end, and where the log gained none it is as it was. A keeper that tells rows now told rows before.
-pub record KeeperFared {K : Type 0} (signs : Signs K) (old new : Housed K) : Type 0 where
+pub record KeeperFared {K : Type 0} (signs : KeeperSigns K) (old new : Housed K) : Type 0 where
   pub grows : keeper_faults (past old) ≤ keeper_faults (past new)
   pub counted : (keeper_faults (past new) + signs.faults old.keeper ≤ keeper_faults (past old) + signs.faults new.keeper) ⊎ (2 ^ 64 - 1 ≤ signs.faults new.keeper)
   pub quiet : keeper_faults (past new) ≡ keeper_faults (past old) → signs.faults new.keeper ≡ signs.faults old.keeper

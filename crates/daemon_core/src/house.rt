@@ -49,6 +49,7 @@ pub struct House<K: Keeper> {
 }
 
 impl<K: Keeper> Model for House<K> {
+    ghost use Rattle.history_keeper.specs.Signs.{signs_of};
     ghost use Rattle.daemon_core.specs.Housed.{Housed};
     ghost use Rattle.daemon_core.specs.House.{IsHouse};
 
@@ -56,14 +57,14 @@ impl<K: Keeper> Model for House<K> {
 
     ghost view = { λ h. record { house_log = h.house_log; places = h.places.items; pool = h.pool; keeper = h.keeper } };
 
-    ghost invariant = { λ h. IsHouse K.tells K.doubt (record { house_log = h.house_log; places = h.places.items; pool = h.pool; keeper = h.keeper }) };
+    ghost invariant = { λ h. IsHouse (signs_of K.tells K.doubt K.faults) (record { house_log = h.house_log; places = h.places.items; pool = h.pool; keeper = h.keeper }) };
 }
 
 impl<K: Keeper> House<K> {
     ghost use Rattle.daemon_core.specs.HouseLog.{Appended, Entered, IsAllowedSo, IsHouseLog, IsMadeBy, Runs};
     ghost use Rattle.daemon_core.specs.Holds.{HoldsFor, IsHoldFor, answer_of};
     ghost use Rattle.daemon_core.specs.House.{IsNewBoard, IsNewHouse, SameElsewhere};
-    ghost use Rattle.daemon_core.specs.Housed.{past, rows_before};
+    ghost use Rattle.daemon_core.specs.Housed.{basis_in, past};
     ghost use Rattle.daemon_core.specs.Owed.{owed};
     ghost use Rattle.daemon_core.specs.Quiet.{is_quiet};
     ghost use Rattle.daemon_core.specs.Turns.{Turned};
@@ -112,12 +113,12 @@ impl<K: Keeper> House<K> {
         self.house_log.facts()
     }
 
-    /// The rows that the first boot loaded which took them for the rows before the log, before it those
-    /// that the last boot loaded which refused them, and else none.
-    pub fn opening(&self) -> &[Row]
-        ensures { result.now ≡ self.now.house_log.opening }
+    /// The row at a place of those that the first boot loaded which took them for the rows before the log, before
+    /// it of those that the last boot loaded which refused them, and else none.
+    pub fn opening(&self, at: usize) -> Option<Row>
+        ensures { result ≡ slice_get self.now.house_log.opening at }
     {
-        self.house_log.opening()
+        self.house_log.opening(at)
     }
 
     /// The rows of the log.
@@ -151,7 +152,7 @@ impl<K: Keeper> House<K> {
         requires quiet { is_quiet event ≡ true }
         requires loaded { self.old.house_log.loaded ≡ true }
         requires takes { BootTakes (past self.old) event }
-        requires allowed { IsAllowedSo self.old.house_log.facts self.old.house_log.first (rows_before self.old.house_log) (past self.old) event }
+        requires allowed { IsAllowedSo (basis_in self.old.house_log) self.old.house_log.first (past self.old) event }
         requires made { IsMadeBy event client }
         requires room { owed (past self.old) + 1 ≤ self.old.house_log.room }
         ensures appended { Appended client event self.old.house_log self.new.house_log }
@@ -165,7 +166,7 @@ impl<K: Keeper> House<K> {
     /// Answers a question.
     pub fn query(&mut self, client: u32, query: &Query) -> Result<(), Stop>
         requires booted { 0 < boots (past self.old) }
-        requires allowed { QueryAllowed self.old.house_log.facts (rows_before self.old.house_log) (past self.old) query.now }
+        requires allowed { QueryAllowed (basis_in self.old.house_log) (past self.old) query.now }
         ensures turn { Turned client (λ _. Event.Query client query.now) result self.old.house_log self.new.house_log }
         ensures elsewhere { SameElsewhere self.old self.new }
     {
@@ -193,8 +194,8 @@ impl<K: Keeper> House<K> {
         requires runs { Runs self.old.house_log }
         requires loaded { self.old.house_log.loaded ≡ true }
         requires free { IsFree (past self.old) client }
-        requires pending { IfSome pending (λ entry. (row : Row) × PendingAllowed self.old.house_log.facts (rows_before self.old.house_log) (past self.old) client request.now entry row) }
-        requires accepted { (device : ℕ) × (verdict self.old.house_log.facts (rows_before self.old.house_log) (past self.old) client request.now (ask_stage pending) ≡ Decision.Accept device release blocks) }
+        requires pending { IfSome pending (λ entry. (row : Row) × PendingAllowed (basis_in self.old.house_log) (past self.old) client request.now entry row) }
+        requires accepted { (device : ℕ) × (verdict (basis_in self.old.house_log) (past self.old) client request.now (ask_stage pending) ≡ Decision.Accept device release blocks) }
         requires room { owed (past self.old) + 3 ≤ self.old.house_log.room }
         ensures appended { Appended client (Event.Ask client request.now pending (AskAnswer.Hold result.blocks.count result.ticket.release)) self.old.house_log self.new.house_log }
         ensures holds { IsHoldFor self.old.house_log.facts client request.now pending result }
@@ -239,7 +240,7 @@ impl<K: Keeper> House<K> {
     ) -> Result<Asked, Stop>
         requires booted { 0 < boots (past self.old) }
         requires free { IsFree (past self.old) client }
-        requires pending { IfSome pending (λ entry. (row : Row) × PendingAllowed self.old.house_log.facts (rows_before self.old.house_log) (past self.old) client request.now entry row) }
+        requires pending { IfSome pending (λ entry. (row : Row) × PendingAllowed (basis_in self.old.house_log) (past self.old) client request.now entry row) }
         ensures turn { Turned client (λ asked. Event.Ask client request.now pending (answer_of asked)) result self.old.house_log self.new.house_log }
         ensures holds { IfOk result (HoldsFor self.old.house_log.facts client request.now pending) }
         ensures places { self.new.places ≡ self.old.places }

@@ -1,53 +1,53 @@
 //! The log's side of a house.
-ghost use Rattle.std.specs.Prelude.{◌≡◌, ◌≤◌, ◌<◌, ◌+◌, ◌-◌, ◌*◌, ◌^◌, ◌∷◌, [], true, false, List, length, IfOk, OnOk, MatchBool, Some};
+ghost use Rattle.std.specs.Prelude.{◌≡◌, ◌≤◌, ◌<◌, ◌+◌, ◌-◌, ◌*◌, ◌^◌, ◌∷◌, [], true, false, List, length, slice_get, IfOk, OnOk, MatchBool, Some};
 ghost use Rattle.fw_facts.specs.declared.seen.Seen.{Seen};
 ghost use Rattle.history_keeper.specs.declared.row.Row.{Row};
-ghost use Rattle.update_log.specs.CoreFolds.{AllFaults};
+ghost use Rattle.update_log.specs.Pasts.{AllFaults, boots, counted, is_boot, limit_of, time_of};
 ghost use Rattle.update_log.specs.Known.{rows};
 ghost use Rattle.update_log.specs.Legal.{BelowLimit, BootTakes};
 ghost use Rattle.update_log.specs.Verdicts.{verdict};
-ghost use Rattle.update_log.specs.Pasts.{boots, counted, is_boot, limit_of, time_of};
 
 mod boots;
 mod claims;
 mod closings;
 mod going;
+mod opening;
 mod parting;
 mod resumes;
 
+use crate::house_log::opening::{Opening, opening_row};
 use crate::stop::Stop;
+use core_state::{CoreState, step, verdict};
 use fw_base::NoMemory;
 use fw_facts::{Release, Seen};
 use history_keeper::{Change, Row};
 use release_catalogue::ReleaseRef;
 use std::alloc::Global;
 use std::marker::Model;
-use update_log::{ClaimAnswer, CoreState, Decision, Event, Facts, Request, Stage, step, verdict};
+use update_log::{ClaimAnswer, Decision, Event, Facts, Request, Stage};
 
-/// The log's side of a house: the facts, what each first image shows, the rows that a boot loaded, whether
-/// the keeper was opened again and no boot behind the log says yet what became of the change in doubt, what
-/// stands for the log, and who made each of its events.
+/// The log's side of a house: the facts, what each first image shows, the rows that a boot loaded and whether
+/// it took them, whether the keeper was opened again and no boot behind the log says yet what became of the
+/// change in doubt, what stands for the log, and who made each of its events.
 #[derive(Drop)]
 pub struct HouseLog {
     facts: Facts,
     first: Vec<Seen>,
-    opening: Vec<Row>,
-    loaded: bool,
+    opening: Opening,
     reopened: bool,
     core: CoreState,
     makers: Vec<u32>,
 }
 
 impl Model for HouseLog {
-    ghost use Rattle.std.specs.Prelude.{◌-◌, min, vec_len, vec_capacity};
     ghost use Rattle.daemon_core.specs.Housed.{HouseLogView};
-    ghost use Rattle.daemon_core.specs.HouseLog.{IsHouseLog};
+    ghost use Rattle.daemon_core.specs.Openings.{IsKept, house_log_of};
 
     ghost Value = { HouseLogView };
 
-    ghost view = { λ a. record { facts = a.facts; first = a.first.items; opening = a.opening.items; loaded = a.loaded; reopened = a.reopened; core = a.core; makers = a.makers.items; room = min a.core.room (vec_capacity a.makers - vec_len a.makers) } };
+    ghost view = { house_log_of };
 
-    ghost invariant = { λ a. IsHouseLog (record { facts = a.facts; first = a.first.items; opening = a.opening.items; loaded = a.loaded; reopened = a.reopened; core = a.core; makers = a.makers.items; room = min a.core.room (vec_capacity a.makers - vec_len a.makers) }) };
+    ghost invariant = { IsKept };
 }
 
 impl HouseLog {
@@ -59,9 +59,9 @@ impl HouseLog {
     ghost use Rattle.history_keeper.specs.declared.change.Change.{Change};
     ghost use Rattle.history_keeper.specs.declared.row.RowState.{RowState};
     ghost use Rattle.update_log.specs.Holding.{live};
-    ghost use Rattle.update_log.specs.Known.{addition, known};
+    ghost use Rattle.update_log.specs.Known.{basis_of, addition, known};
     ghost use Rattle.update_log.specs.declared.decision.Stage.{Stage};
-    ghost use Rattle.daemon_core.specs.Housed.{past_in, rows_before};
+    ghost use Rattle.daemon_core.specs.Housed.{basis_in, past_in, rows_before};
     ghost use Rattle.daemon_core.specs.Owed.{owed};
 
     /// The house log before the first boot. There are at most 256 sheets, and what the first image of each
@@ -75,8 +75,7 @@ impl HouseLog {
         Ok(HouseLog {
             facts,
             first,
-            opening: Vec::new(alloc),
-            loaded: false,
+            opening: Opening::Untaken(Vec::new(alloc)),
             reopened: false,
             core,
             makers: Vec::new(alloc),
@@ -90,18 +89,11 @@ impl HouseLog {
         &self.facts
     }
 
-    /// The rows that the last boot loaded, and none before it.
-    pub fn opening(&self) -> &[Row]
-        ensures { result.now ≡ self.now.opening }
+    /// The row at a place of those that the last boot loaded, and none before it.
+    pub fn opening(&self, at: usize) -> Option<Row>
+        ensures { result ≡ slice_get self.now.opening at }
     {
-        &self.opening
-    }
-
-    /// The rows before the log: none, until a boot took those that it loaded.
-    pub fn rows_before(&self) -> &[Row]
-        ensures { result.now ≡ rows_before self.now }
-    {
-        if self.loaded { &self.opening } else { &[] }
+        opening_row(&self.opening, self.core.rows(), at)
     }
 
     /// What stands for the log.
@@ -115,12 +107,12 @@ impl HouseLog {
     pub fn known(&self)
         ensures { IsHouseLog self.now }
     {
-        let _ = &self.loaded;
+        let _ = &self.reopened;
     }
 
     /// What is decided of a client's request at a stage.
     pub fn decided(&self, client: u32, request: &Request, stage: Stage) -> Decision
-        ensures { result ≡ verdict self.now.facts (rows_before self.now) (past_in self.now) client request.now stage }
+        ensures { result ≡ verdict (basis_in self.now) (past_in self.now) client request.now stage }
     {
         verdict(&self.facts, &self.core, client, request, stage)
     }
@@ -136,8 +128,8 @@ impl HouseLog {
 
     /// The row that a request adds which is accepted and put off.
     pub fn row_put_off(&self, client: u32, request: &Request) -> Row
-        requires { IsAccept (verdict self.now.facts (rows_before self.now) (past_in self.now) client request.now Stage.Schedule) }
-        ensures added { addition self.now.facts (time_of (past_in self.now)) (live (past_in self.now)) (known self.now.facts (rows_before self.now) (past_in self.now)) client request.now RowState.Pending ≡ Some (Change.Add result) }
+        requires { IsAccept (verdict (basis_in self.now) (past_in self.now) client request.now Stage.Schedule) }
+        ensures added { addition self.now.facts (time_of (past_in self.now)) (live (past_in self.now)) (known (basis_in self.now) (past_in self.now)) client request.now RowState.Pending ≡ Some (Change.Add result) }
         ensures entry { result.entry ≡ length self.now.core.rows + 1 }
         ensures suits { Suits (Change.Add result) self.now.core.rows }
         ensures timely { IsTimely (Change.Add result) }
@@ -171,10 +163,10 @@ impl HouseLog {
     fn append(&mut self, client: u32, event: Event)
         ghost before: { List Row }
         requires before { rows_before self.old ≡ before }
-        requires legal { IsLegalSo self.old.facts self.old.first before (event ∷ past_in self.old) }
+        requires legal { IsLegalSo (basis_of self.old.facts before) self.old.first (event ∷ past_in self.old) }
         requires made { IsMadeBy event client }
         requires room { owed (event ∷ past_in self.old) + 1 ≤ self.old.room }
-        requires row { length (rows self.old.facts before (event ∷ past_in self.old)) ≤ length self.old.core.rows + self.old.core.row_room }
+        requires row { length (rows (basis_of self.old.facts before) (event ∷ past_in self.old)) ≤ length self.old.core.rows + self.old.core.row_room }
         requires unloaded { self.old.loaded ≡ false → AllFaults (event ∷ past_in self.old) }
         requires few_boots { boots (event ∷ past_in self.old) < 2 ^ 32 }
         requires timely { time_of (event ∷ past_in self.old) ≤ 2 ^ 63 - 1 }
@@ -191,10 +183,10 @@ impl HouseLog {
         requires no_boot { is_boot event ≡ false }
         requires loaded { self.old.loaded ≡ true }
         requires takes { BootTakes (past_in self.old) event }
-        requires allowed { IsAllowedSo self.old.facts self.old.first (rows_before self.old) (past_in self.old) event }
+        requires allowed { IsAllowedSo (basis_in self.old) self.old.first (past_in self.old) event }
         requires made { IsMadeBy event client }
         requires room { owed (event ∷ past_in self.old) + 1 ≤ self.old.room }
-        requires row { length (rows self.old.facts (rows_before self.old) (event ∷ past_in self.old)) ≤ length self.old.core.rows + self.old.core.row_room }
+        requires row { length (rows (basis_in self.old) (event ∷ past_in self.old)) ≤ length self.old.core.rows + self.old.core.row_room }
         ensures appended { Appended client event self.old self.new }
         ensures known { IsHouseLog self.new }
         ensures room { self.old.room ≤ self.new.room + 1 }

@@ -8,10 +8,11 @@ ghost use Rattle.daemon_core.specs.Quiet.{moves_none};
 ghost use Rattle.daemon_core.specs.Returns.{place_at};
 
 use crate::place::BoardPlace;
-use crate::settling::{found_view, is_home};
+use crate::settling::found_view;
+use core_state::CoreState;
 use device_list::Selector;
 use fw_facts::{DeviceView, Seen};
-use update_log::{CoreState, PlugAnswer};
+use update_log::{PlugAnswer, is_home};
 
 /// Why the device that a selector finds isn't taken out of its port.
 pub(crate) fn unplug_refused(core: &CoreState, device: &Selector) -> Option<PlugAnswer>

@@ -1,14 +1,17 @@
 //! Reading the history at a boot.
 ghost use Rattle.std.specs.Prelude.{◌≡◌, ◌≤◌, false, true, None, IfOk};
+ghost use Rattle.history_keeper.specs.Signs.{signs_of};
 ghost use Rattle.daemon_core.specs.Keeping.{Keeps};
 ghost use Rattle.daemon_core.specs.Reading.{Became, FirstRead, LaterRead, WasRead, found_unchanged, place_told};
 
 use crate::comparing::{first_difference, with_change};
 use crate::house_log::HouseLog;
+use core_state::CoreState;
 use fw_base::NoMemory;
 use history_keeper::{Change, Keeper, KeeperRefusal, Row, first_faulty};
+use row_index::formers_of;
 use std::alloc::Global;
-use update_log::{CoreState, Found};
+use update_log::Found;
 
 /// What a boot read.
 #[derive(Clone, Copy)]
@@ -29,9 +32,9 @@ pub(crate) fn read_history<K: Keeper>(
     keeper: &mut K,
 ) -> Result<Loaded, NoMemory>
     requires fresh { house_log.old.loaded ≡ false → K.doubt keeper.old ≡ None }
-    requires kept { house_log.old.loaded ≡ true → Keeps K.tells K.doubt keeper.old house_log.old.core.rows house_log.old.core.doubt }
-    ensures first { house_log.old.loaded ≡ false → FirstRead K.tells K.doubt K.faults result house_log.old house_log.new keeper.old keeper.new }
-    ensures later { house_log.old.loaded ≡ true → (house_log.new ≡ record house_log.old { reopened = true }) × LaterRead K.tells K.doubt K.faults K.settled result house_log.old.core.rows house_log.old.core.doubt keeper.old keeper.new }
+    requires kept { house_log.old.loaded ≡ true → Keeps (signs_of K.tells K.doubt K.faults) keeper.old house_log.old.core.rows house_log.old.core.doubt }
+    ensures first { house_log.old.loaded ≡ false → FirstRead (signs_of K.tells K.doubt K.faults) result house_log.old house_log.new keeper.old keeper.new }
+    ensures later { house_log.old.loaded ≡ true → (house_log.new ≡ record house_log.old { reopened = true }) × LaterRead (signs_of K.tells K.doubt K.faults) K.settled result house_log.old.core.rows house_log.old.core.doubt keeper.old keeper.new }
     ensures was_read { WasRead K.tells K.settled keeper.old keeper.new }
     ensures counts { K.faults keeper.old ≤ K.faults keeper.new }
 {
@@ -51,7 +54,7 @@ fn first_history<K: Keeper>(
 ) -> Result<Loaded, NoMemory>
     requires unloaded { house_log.old.loaded ≡ false }
     requires no_doubt { K.doubt keeper.old ≡ None }
-    ensures read { FirstRead K.tells K.doubt K.faults result house_log.old house_log.new keeper.old keeper.new }
+    ensures read { FirstRead (signs_of K.tells K.doubt K.faults) result house_log.old house_log.new keeper.old keeper.new }
     ensures was_read { WasRead K.tells K.settled keeper.old keeper.new }
     ensures counts { K.faults keeper.old ≤ K.faults keeper.new }
 {
@@ -60,14 +63,14 @@ fn first_history<K: Keeper>(
         Err(KeeperRefusal::Fault) => return Ok(Loaded::Fault),
         Err(KeeperRefusal::NoMemory) => return Err(NoMemory),
     };
-    let opening = Vec::from_slice(alloc, &rows)?;
     match first_faulty(alloc, &rows)? {
         Some(at) => {
-            house_log.refuse_opening(opening);
+            house_log.refuse_opening(rows);
             Ok(Loaded::Bad(place_told(at)))
         }
         None => {
-            house_log.take_opening(opening, rows);
+            let formers = formers_of(alloc, &rows)?;
+            house_log.take_opening(formers, rows);
             Ok(Loaded::Found(Found::Plain))
         }
     }
@@ -79,8 +82,8 @@ fn later_history<K: Keeper>(
     core: &CoreState,
     keeper: &mut K,
 ) -> Result<Loaded, NoMemory>
-    requires { Keeps K.tells K.doubt keeper.old core.now.rows core.now.doubt }
-    ensures read { LaterRead K.tells K.doubt K.faults K.settled result core.now.rows core.now.doubt keeper.old keeper.new }
+    requires { Keeps (signs_of K.tells K.doubt K.faults) keeper.old core.now.rows core.now.doubt }
+    ensures read { LaterRead (signs_of K.tells K.doubt K.faults) K.settled result core.now.rows core.now.doubt keeper.old keeper.new }
     ensures was_read { WasRead K.tells K.settled keeper.old keeper.new }
     ensures counts { K.faults keeper.old ≤ K.faults keeper.new }
 {

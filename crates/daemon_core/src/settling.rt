@@ -5,9 +5,10 @@ ghost use Rattle.update_log.specs.Legal.{found_view};
 ghost use Rattle.daemon_core.specs.Settling.{device_row, row_on};
 
 use crate::judged::DeviceRow;
+use core_state::CoreState;
 use device_list::Selector;
-use fw_facts::{DeviceView, Seen};
-use update_log::CoreState;
+use fw_facts::DeviceView;
+use update_log::is_home;
 
 /// What is found of the device of a selector.
 pub fn device_row(core: &CoreState, device: &Selector) -> DeviceRow
@@ -37,14 +38,5 @@ fn row_on(core: &CoreState, view: &DeviceView) -> DeviceRow
     match core.unsettled_row(&view.sheet.device) {
         Some(row) => DeviceRow::Waiting { entry: row.entry },
         None => DeviceRow::Nothing,
-    }
-}
-
-pub(crate) fn is_home(seen: Seen) -> bool
-    ensures { result ≡ is_home seen }
-{
-    match seen {
-        Seen::Home { .. } => true,
-        Seen::Gone | Seen::Stranger => false,
     }
 }

@@ -2,7 +2,7 @@
 ghost use Rattle.std.specs.Prelude.{◌≡◌, ◌||◌, IsSome, Some, option_copied, option_map};
 ghost use Rattle.history_keeper.specs.Histories.{is_unsettled};
 ghost use Rattle.fw_facts.specs.Views.{version_of};
-ghost use Rattle.update_log.specs.CoreSteps.{advance_on};
+ghost use Rattle.core_state.specs.CoreSteps.{advance_on};
 ghost use Rattle.update_log.specs.Holding.{is_live, live};
 ghost use Rattle.update_log.specs.Known.{reason_of, row_of};
 ghost use Rattle.update_log.specs.Pasts.{past_of, time_of};
@@ -10,9 +10,10 @@ ghost use Rattle.update_log.specs.Steps.{view_of_row};
 ghost use Rattle.daemon_core.specs.Judging.{judged_by, judged_on, must_wait, standing};
 
 use crate::judged::Standing;
+use core_state::CoreState;
 use fw_facts::DeviceView;
 use history_keeper::{Change, Row, RowState};
-use update_log::{CoreState, judge};
+use update_log::judge;
 
 /// How the row of an entry stands to its judgement. The entry has a row.
 pub fn standing_of(core: &CoreState, entry: u32) -> Standing

@@ -40,16 +40,16 @@ use Rattle.daemon_tasks.specs.Waits.{WaitsIn, rows_seen}
 pub asked-waits : {did : List Entry → List Entry → Type 0} (name : Name) (lock : LockId) (old new : PassView Entry) → IsPass lock name old → (t : Took name did old new) → old.number ≡ 0
     → (request : Request) (pending : Option ℕ) (answer : AskAnswer) → Adds 0 (Event.Ask 0 request pending answer) t.met new.seen → (entry : ℕ) → WaitsIn (rows_seen name old.seen) entry → WaitsIn (rows_seen name new.seen) entry
 asked-waits name lock old new p t own request pending answer a entry w =
-    let met : row_of (rows name.facts name.opening (past_seen t.met)) entry ≡ Some w.row = pending-met name old.number old.seen t.met entry w.row p.log t.meets own w.row_is w.pending in
+    let met : row_of (rows name.basis (past_seen t.met)) entry ≡ Some w.row = pending-met name old.number old.seen t.met entry w.row p.log t.meets own w.row_is w.pending in
     record {
       row = w.row;
-      row_is = ap (λ (x : List Event). row_of (rows name.facts name.opening x) entry) (past-added 0 (Event.Ask 0 request pending answer) t.met new.seen a)
-          ∙ row-same name.facts name.opening (past_seen t.met) (Event.Ask 0 request pending answer) entry w.row refl refl met;
+      row_is = ap (λ (x : List Event). row_of (rows name.basis x) entry) (past-added 0 (Event.Ask 0 request pending answer) t.met new.seen a)
+          ∙ row-same name.basis (past_seen t.met) (Event.Ask 0 request pending answer) entry w.row refl refl met;
       pending = w.pending;
     }
 
 -- With what was fetched into a hold's blocks, its row may be resumed.
-pub may-resume : (name : Name) (entry : ℕ) (seen : List Entry) (request : Request) (given : Hold) (ticket : Ticket) (fetched : Fetched) → WaitsIn (rows_seen name seen) entry → IsHoldFor name.facts 0 request (Some entry) given → hold (past_seen seen) 0 ≡ Some (held_by given.ticket given.blocks.count)
+pub may-resume : (name : Name) (entry : ℕ) (seen : List Entry) (request : Request) (given : Hold) (ticket : Ticket) (fetched : Fetched) → WaitsIn (rows_seen name seen) entry → IsHoldFor name.basis.facts 0 request (Some entry) given → hold (past_seen seen) 0 ≡ Some (held_by given.ticket given.blocks.count)
     → ticket ≡ given.ticket → block_count fetched ≡ given.blocks.count → IfWhole fetched (λ payload. payload.digest ≡ given.digest) → IfWhole fetched (λ payload. length payload.bytes ≡ given.size) → MayResumeRow name entry (Some (ticket, fetched)) seen
 may-resume name entry seen request given ticket fetched w is held t b d s =
     record {
@@ -59,7 +59,7 @@ may-resume name entry seen request given ticket fetched w is held t b d s =
       has = record {
         held_is = held ∙ ap (λ (x : Ticket). Some (held_by x given.blocks.count)) (sym t) ∙ ap (λ (n : ℕ). Some (held_by ticket n)) (sym b);
         pending_is = ap (λ (x : Ticket). x.pending) t ∙ is.pending_is;
-        whole = fetched-whole name.facts 0 request (Some entry) given ticket fetched is t d s;
+        whole = fetched-whole name.basis.facts 0 request (Some entry) given ticket fetched is t d s;
       };
     }
 
@@ -75,16 +75,16 @@ resume-runs name entry held taken old new l same own t a g =
     let event : Event = Event.Resume 0 entry (Some (whole_note taken.payload)) ResumeAnswer.Begun Stored.Yes in
     let added : Adds 0 event t.met new.seen = subst (λ (o : Option (Ticket × Fetched)). Adds 0 (Event.Resume 0 entry (note_in o) ResumeAnswer.Begun Stored.Yes) t.met new.seen) g.1.1 a.1 in
     let p : past_seen new.seen ≡ event ∷ past_seen t.met = past-added 0 event t.met new.seen added in
-    let legal : IsLegalSo name.facts name.first name.opening (event ∷ past_seen t.met) = subst (λ (x : List Event). IsLegalSo name.facts name.first name.opening x) p l.legal in
+    let legal : IsLegalSo name.basis name.first (event ∷ past_seen t.met) = subst (λ (x : List Event). IsLegalSo name.basis name.first x) p l.legal in
     let e = g.2 in
-    let is : IsTaken name.facts name.first name.opening (event ∷ past_seen t.met) 0 taken e.number = subst (λ (x : List Event). IsTaken name.facts name.first name.opening x 0 taken e.number) p e.is in
+    let is : IsTaken name.basis name.first (event ∷ past_seen t.met) 0 taken e.number = subst (λ (x : List Event). IsTaken name.basis name.first x 0 taken e.number) p e.is in
     let takes : TakesWith taken.entry taken.payload event = subst (λ (i : ℕ). TakesWith i taken.payload event) (sym g.0) (resume-takes 0 entry Stored.Yes taken.payload) in
     let runs : RunsSeen name 0 (parts_taken taken) None new.seen =
     record {
       number = e.number;
       l = is.l;
-      runs = subst (λ (x : List Event). ClaimRuns name.facts name.first name.opening x 0 (parts_taken taken) e.number is.l None) (sym p)
-          (taken-runs name.facts name.first name.opening (past_seen t.met) event 0 taken e.number l.history legal a.0 (legal.3.1.booted refl) takes is);
+      runs = subst (λ (x : List Event). ClaimRuns name.basis name.first x 0 (parts_taken taken) e.number is.l None) (sym p)
+          (taken-runs name.basis name.first (past_seen t.met) event 0 taken e.number l.history legal a.0 (legal.1.1.booted refl) takes is);
       planned = e.planned;
     } in
     subst (λ (n : ℕ). RunsSeen name n (parts_taken taken) None new.seen) (sym (same ∙ own)) runs

@@ -2,16 +2,17 @@
 use Rattle.std.proofs.Common.{◌≡◌, ◌⊎◌, ℕ, ◌<◌, ◌≤◌, ◌+◌, ◌-◌, ◌^◌, Bool, false, List, refl, ap, sym, ◌∙◌, subst, inl, inr, arith}
 use Rattle.emulated_boards.specs.declared.fault.PlannedFault.{PlannedFault}
 use Rattle.history_keeper.specs.declared.row.Row.{Row}
+use Rattle.history_keeper.specs.Signs.{KeeperSigns}
 use Rattle.update_log.specs.declared.event.Event.{Event}
 use Rattle.update_log.specs.declared.facts.Facts.{Facts}
 use Rattle.update_log.specs.Holding.{holds, live}
-use Rattle.update_log.specs.Known.{rows}
+use Rattle.update_log.specs.Known.{Basis, basis_of, rows}
 use Rattle.update_log.specs.Pasts.{boots, off}
 use Rattle.daemon_core.specs.HouseLog.{IsHouseLog, SameFacts}
-use Rattle.daemon_core.specs.Housed.{Housed, past, rows_before}
+use Rattle.daemon_core.specs.Housed.{basis_in, Housed, past, rows_before}
 use Rattle.daemon_core.specs.Keeping.{keeper_faults}
 use Rattle.daemon_core.specs.Parts.{AllHome}
-use Rattle.daemon_core.specs.Turns.{KeeperFared, Signs}
+use Rattle.daemon_core.specs.Turns.{KeeperFared}
 use Rattle.daemon_core.specs.Planned.{HavePlans, KeepsPlans}
 use Rattle.daemon_core.proofs.LogLaws.{loaded-on}
 use Rattle.daemon_core.proofs.Planned.{keeps-picked, plans-picked}
@@ -29,7 +30,7 @@ use Rattle.daemon_tasks.specs.Waits.{rows_seen}
 use Rattle.daemon_tasks.proofs.Pasts.{on-read}
 
 -- Each fault of the keeper that the log tells stays counted, and the last boot read the history still.
-pub rest-counted : {K : Type 0} (signs : Signs K) (old mid : Housed K) → AtRest signs old mid → IsCounted signs old → IsCounted signs mid
+pub rest-counted : {K : Type 0} (signs : KeeperSigns K) (old mid : Housed K) → AtRest signs old mid → IsCounted signs old → IsCounted signs mid
 rest-counted signs old mid rest c = both c rest.counted.counted rest.counts
   where
     both : IsCounted signs old → (keeper_faults (past mid) + signs.faults old.keeper ≤ keeper_faults (past old) + signs.faults mid.keeper) ⊎ (2 ^ 64 - 1 ≤ signs.faults mid.keeper) → signs.faults old.keeper ≤ signs.faults mid.keeper → IsCounted signs mid
@@ -37,10 +38,10 @@ rest-counted signs old mid rest c = both c rest.counted.counted rest.counts
     both (inr x) (inl y) z = inr (omega arith)
     both x (inr y) z = inr y
 
-pub rest-read : {K : Type 0} (signs : Signs K) (old mid : Housed K) → Grew (past old) (past mid) → AtRest signs old mid → ReadLast old → ReadLast mid
+pub rest-read : {K : Type 0} (signs : KeeperSigns K) (old mid : Housed K) → Grew (past old) (past mid) → AtRest signs old mid → ReadLast old → ReadLast mid
 rest-read signs old mid g rest r f = rest.same.reopened ∙ r (sym (grew-faulted (past old) (past mid) g) ∙ f)
 
-module _ {K : Type 0} (signs : Signs K) where
+module _ {K : Type 0} (signs : KeeperSigns K) where
   -- A daemon may begin round a house that was booted, and isn't off.
   pub can-begin : (h : Housed K) → IsHouseLog h.house_log → 0 < boots (past h) → off (past h) ≡ false → IsCounted signs h → IsIdle (past h) → ReadLast h → CanBegin signs h
   can-begin h k b o c i r =
@@ -102,7 +103,7 @@ module _ {K : Type 0} (signs : Signs K) where
 
   -- What its name says as the daemon begins, of the house.
   module _ (name : Name) (old : Housed K) (e : IsNameOf signs name old) (b : CanBegin signs old) (k : IsHouseLog old.house_log) where
-    pub rows-so : name.opening ≡ rows_before old.house_log
+    pub rows-so : name.basis.opening ≡ rows_before old.house_log
     rows-so = sym (before-named signs name old (begins-named name old e b))
 
     pub old-past : past_seen name.start ≡ past old
@@ -110,9 +111,9 @@ module _ {K : Type 0} (signs : Signs K) where
 
     pub rows-start : rows_seen name name.start ≡ rows_at old.house_log
     rows-start =
-        ap (λ (f : Facts). rows f name.opening (past_seen name.start)) e.facts_are
-        ∙ ap (λ (o : List Row). rows old.house_log.facts o (past_seen name.start)) rows-so
-        ∙ ap (λ (p : List Event). rows old.house_log.facts (rows_before old.house_log) p) old-past
+        ap (λ (f : Facts). rows (basis_of f name.basis.opening) (past_seen name.start)) e.facts_are
+        ∙ ap (λ (o : List Row). rows (basis_of old.house_log.facts o) (past_seen name.start)) rows-so
+        ∙ ap (λ (p : List Event). rows (basis_in old.house_log) p) old-past
 
     -- The daemon closed.
     module _ (new : Housed K) (w : IsHouseLog new.house_log) (n : KeepsName signs name new) where
@@ -158,14 +159,14 @@ module _ {K : Type 0} (signs : Signs K) where
       new-past = past-entries new.house_log w
 
       -- What the daemon did, by its log, it did to the house.
-      pub went-so : {X : Type 0} (wanting : Bool) (Play : Facts → List Row → X → List Moment → Type 0) (xs : List X) → AllHome old.places → HasNothing (chronicle new) → WentThrough wanting 0 (Play name.facts name.opening) xs (past_seen name.start) (past_seen (chronicle new))
-          → HouseWent signs wanting 0 (Play old.house_log.facts (rows_before old.house_log)) xs old new
+      pub went-so : {X : Type 0} (wanting : Bool) (Play : Basis → X → List Moment → Type 0) (xs : List X) → AllHome old.places → HasNothing (chronicle new) → WentThrough wanting 0 (Play name.basis) xs (past_seen name.start) (past_seen (chronicle new))
+          → HouseWent signs wanting 0 (Play (basis_in old.house_log)) xs old new
       went-so wanting Play xs home nothing w =
           record {
-            went = subst (λ (f : Facts). WentThrough wanting 0 (Play f (rows_before old.house_log)) xs (past old) (past new)) e.facts_are
-                (subst (λ (o : List Row). WentThrough wanting 0 (Play name.facts o) xs (past old) (past new)) rows-so
-                (subst (λ (es : List Event). WentThrough wanting 0 (Play name.facts name.opening) xs es (past new)) old-past
-                (subst (λ (es : List Event). WentThrough wanting 0 (Play name.facts name.opening) xs (past_seen name.start) es) new-past w)));
+            went = subst (λ (f : Facts). WentThrough wanting 0 (Play (basis_of f (rows_before old.house_log))) xs (past old) (past new)) e.facts_are
+                (subst (λ (o : List Row). WentThrough wanting 0 (Play (basis_of name.basis.facts o)) xs (past old) (past new)) rows-so
+                (subst (λ (es : List Event). WentThrough wanting 0 (Play name.basis) xs es (past new)) old-past
+                (subst (λ (es : List Event). WentThrough wanting 0 (Play name.basis) xs (past_seen name.start) es) new-past w)));
             rest = rest-so home nothing;
           }
 

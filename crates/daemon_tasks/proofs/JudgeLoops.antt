@@ -10,16 +10,15 @@ use Rattle.fw_facts.specs.Views.{is_home}
 use Rattle.fw_facts.specs.declared.view.DeviceView.{DeviceView}
 use Rattle.history_keeper.specs.declared.row.Row.{Row}
 use Rattle.history_keeper.specs.declared.row.RowState.{RowState}
+use Rattle.history_keeper.specs.Signs.{KeeperSigns}
 use Rattle.update_log.proofs.Lists.{by_test, eqb-other, eqb-self}
 use Rattle.update_log.specs.declared.event.Event.{Event}
-use Rattle.update_log.specs.declared.facts.Facts.{Facts}
 use Rattle.update_log.specs.Holding.{live}
-use Rattle.update_log.specs.Known.{row_of, views}
+use Rattle.update_log.specs.Known.{Basis, row_of, views}
 use Rattle.update_log.specs.Legal.{may_judge}
 use Rattle.update_log.specs.Pasts.{finished, off}
 use Rattle.update_log.specs.Steps.{view_of_row}
-use Rattle.daemon_core.specs.Housed.{HouseLogView, Housed, past, past_in, rows_before}
-use Rattle.daemon_core.specs.Turns.{Signs}
+use Rattle.daemon_core.specs.Housed.{basis_in, HouseLogView, Housed, past, past_in}
 use Rattle.client_plays.specs.Endings.{HouseWent, IsIdle, SoFar}
 use Rattle.client_plays.specs.Moments.{Moment}
 use Rattle.client_plays.specs.Plays.{Task, TaskPlays, ToJudge}
@@ -82,10 +81,10 @@ module _ {X : Type 0} (client : ℕ) (Play : X → List Moment → Type 0) (xs :
 
 -- ---- the tasks of a list of entries
 
-pub judge-append : (facts : Facts) (opening : List Row) (past : List Event) (xs ys : List ℕ) → to_judge facts opening past (xs ++ ys) ≡ to_judge facts opening past xs ++ to_judge facts opening past ys
-judge-append facts opening past xs ys =
-    ap (map ToJudge) (filter-append (can_judge facts opening past) xs ys)
-    ∙ map-append ToJudge (filter (can_judge facts opening past) xs) (filter (can_judge facts opening past) ys)
+pub judge-append : (basis : Basis) (past : List Event) (xs ys : List ℕ) → to_judge basis past (xs ++ ys) ≡ to_judge basis past xs ++ to_judge basis past ys
+judge-append basis past xs ys =
+    ap (map ToJudge) (filter-append (can_judge basis past) xs ys)
+    ∙ map-append ToJudge (filter (can_judge basis past) xs) (filter (can_judge basis past) ys)
 
 -- ---- whether another row can be judged stays the same
 
@@ -94,15 +93,15 @@ may-same p q RowState.Begun entry l m f = rw (l, m) refl
 may-same p q RowState.NeedsReboot entry l m f = ap not f
 may-same p q _ entry l m f = refl
 
-can-same : (entries : List ℕ) (old mid : HouseLogView) (entry : ℕ) → live (past_in old) ≡ [] → live (past_in mid) ≡ [] → JudgeStays entries old mid → list_any (λ e. e == entry) entries ≡ false → can_judge mid.facts (rows_before mid) (past_in mid) entry ≡ can_judge old.facts (rows_before old) (past_in old) entry
+can-same : (entries : List ℕ) (old mid : HouseLogView) (entry : ℕ) → live (past_in old) ≡ [] → live (past_in mid) ≡ [] → JudgeStays entries old mid → list_any (λ e. e == entry) entries ≡ false → can_judge (basis_in mid) (past_in mid) entry ≡ can_judge (basis_in old) (past_in old) entry
 can-same entries old mid entry l m s n =
-    ap (λ (o : Option Row). unwrap_or (option_map (is_judgeable (past_in mid) (views mid.facts (rows_before mid) (past_in mid))) o) false) (s.rows entry n)
+    ap (λ (o : Option Row). unwrap_or (option_map (is_judgeable (past_in mid) (views (basis_in mid) (past_in mid))) o) false) (s.rows entry n)
     ∙ by (row_of (rows_at old) entry)
   where
-    by : (o : Option Row) → unwrap_or (option_map (is_judgeable (past_in mid) (views mid.facts (rows_before mid) (past_in mid))) o) false ≡ unwrap_or (option_map (is_judgeable (past_in old) (views old.facts (rows_before old) (past_in old))) o) false
+    by : (o : Option Row) → unwrap_or (option_map (is_judgeable (past_in mid) (views (basis_in mid) (past_in mid))) o) false ≡ unwrap_or (option_map (is_judgeable (past_in old) (views (basis_in old) (past_in old))) o) false
     by None = refl
     by (Some row) =
-        ap (λ (b : Bool). b && unwrap_or (option_map (λ v. is_home v.seen) (view_of_row (views mid.facts (rows_before mid) (past_in mid)) row)) false)
+        ap (λ (b : Bool). b && unwrap_or (option_map (λ v. is_home v.seen) (view_of_row (views (basis_in mid) (past_in mid)) row)) false)
         (may-same (past_in mid) (past_in old) row.state row.entry m l (s.finished row.entry))
         ∙ ap (λ (v : List DeviceView). may_judge (past_in old) row.state row.entry && unwrap_or (option_map (λ w. is_home w.seen) (view_of_row v row)) false) s.views
 
@@ -110,16 +109,16 @@ abbrev kept : Bool → ℕ → List Task
 kept true entry = ToJudge entry ∷ []
 kept false entry = []
 
-one : (a : HouseLogView) (entry : ℕ) (b : Bool) → can_judge a.facts (rows_before a) (past_in a) entry ≡ b → to_judge_in a (entry ∷ []) ≡ kept b entry
+one : (a : HouseLogView) (entry : ℕ) (b : Bool) → can_judge (basis_in a) (past_in a) entry ≡ b → to_judge_in a (entry ∷ []) ≡ kept b entry
 one a entry true t = rw t refl
 one a entry false t = rw t refl
 
 one-same : (entries : List ℕ) (old mid : HouseLogView) (entry : ℕ) → live (past_in old) ≡ [] → live (past_in mid) ≡ [] → JudgeStays entries old mid → list_any (λ e. e == entry) entries ≡ false → to_judge_in mid (entry ∷ []) ≡ to_judge_in old (entry ∷ [])
 one-same entries old mid entry l m s n =
     let same = can-same entries old mid entry l m s n in
-    by_test (can_judge old.facts (rows_before old) (past_in old) entry) _
-    (λ t. let u : can_judge mid.facts (rows_before mid) (past_in mid) entry ≡ true = same ∙ t in one mid entry true u ∙ sym (one old entry true t))
-    (λ t. let u : can_judge mid.facts (rows_before mid) (past_in mid) entry ≡ false = same ∙ t in one mid entry false u ∙ sym (one old entry false t))
+    by_test (can_judge (basis_in old) (past_in old) entry) _
+    (λ t. let u : can_judge (basis_in mid) (past_in mid) entry ≡ true = same ∙ t in one mid entry true u ∙ sym (one old entry true t))
+    (λ t. let u : can_judge (basis_in mid) (past_in mid) entry ≡ false = same ∙ t in one mid entry false u ∙ sym (one old entry false t))
 
 any-none : (entries : List ℕ) (entry other : ℕ) → list_any (λ e. e == other) (entries ++ entry ∷ []) ≡ false → (list_any (λ e. e == other) entries ≡ false) × (list_any (λ e. e == other) (entry ∷ []) ≡ false)
 any-none entries entry other h = or_parts _ _ (sym (list_any-append (λ e. e == other) entries (entry ∷ [])) ∙ h)
@@ -135,54 +134,54 @@ stays-more entries entry old mid new s t =
 -- ---- so far
 
 -- These entries were gone through.
-pub record JudgedSoFar {K : Type 0} (signs : Signs K) (facts : Facts) (opening : List Row) (means : Means) (wanting : Bool) (entries : List ℕ) (old new : Housed K) : Type 0 where
-  pub so_far : SoFar signs wanting 0 (TaskPlays facts opening means) (to_judge_in old.house_log entries) old new
+pub record JudgedSoFar {K : Type 0} (signs : KeeperSigns K) (basis : Basis) (means : Means) (wanting : Bool) (entries : List ℕ) (old new : Housed K) : Type 0 where
+  pub so_far : SoFar signs wanting 0 (TaskPlays basis means) (to_judge_in old.house_log entries) old new
   pub stays : JudgeStays entries old.house_log new.house_log
 
-pub judged-none : {K : Type 0} (signs : Signs K) (facts : Facts) (opening : List Row) (means : Means) (wanting : Bool) (h : Housed K) → IsIdle (past h) → JudgedSoFar signs facts opening means wanting [] h h
-judged-none signs facts opening means wanting h i =
-    record { so_far = so_far-nothing signs wanting 0 (TaskPlays facts opening means) h i; stays = record { rows = λ other n. refl; views = refl; finished = λ n. refl } }
+pub judged-none : {K : Type 0} (signs : KeeperSigns K) (basis : Basis) (means : Means) (wanting : Bool) (h : Housed K) → IsIdle (past h) → JudgedSoFar signs basis means wanting [] h h
+judged-none signs basis means wanting h i =
+    record { so_far = so_far-nothing signs wanting 0 (TaskPlays basis means) h i; stays = record { rows = λ other n. refl; views = refl; finished = λ n. refl } }
 
 told-so : (now wanting : Bool) → (now ≡ true) ⊎ (now ≡ wanting) → wanting ≡ true → now ≡ true
 told-so now wanting (inl e) w = e
 told-so now wanting (inr e) w = e ∙ w
 
 -- One entry more was.
-pub judged-more : {K : Type 0} (signs : Signs K) (facts : Facts) (opening : List Row) (means : Means) (now wanting : Bool) (entries : List ℕ) (entry : ℕ) (old mid new : Housed K) → IsIdle (past old) → list_any (λ e. e == entry) entries ≡ false → JudgedSoFar signs facts opening means wanting entries old mid
-    → HouseTried signs facts opening means (Some now) wanting (to_judge_in mid.house_log (entry ∷ [])) mid new → JudgeStays (entry ∷ []) mid.house_log new.house_log → JudgedSoFar signs facts opening means now (entries ++ entry ∷ []) old new
-judged-more signs facts opening means now wanting entries entry old mid new i n s t stays =
+pub judged-more : {K : Type 0} (signs : KeeperSigns K) (basis : Basis) (means : Means) (now wanting : Bool) (entries : List ℕ) (entry : ℕ) (old mid new : Housed K) → IsIdle (past old) → list_any (λ e. e == entry) entries ≡ false → JudgedSoFar signs basis means wanting entries old mid
+    → HouseTried signs basis means (Some now) wanting (to_judge_in mid.house_log (entry ∷ [])) mid new → JudgeStays (entry ∷ []) mid.house_log new.house_log → JudgedSoFar signs basis means now (entries ++ entry ∷ []) old new
+judged-more signs basis means now wanting entries entry old mid new i n s t stays =
     let same = one-same entries old.house_log mid.house_log entry i.no_live s.so_far.rest.idle.no_live s.stays n in
-    let one : PlaysAll now 0 (TaskPlays facts opening means) (to_judge_in old.house_log (entry ∷ [])) t.moments = subst (λ (ts : List Task). PlaysAll now 0 (TaskPlays facts opening means) ts t.moments) same t.more.1 in
-    let before : PlaysAll now 0 (TaskPlays facts opening means) (to_judge_in old.house_log entries) s.so_far.moments = so-told false wanting now 0 (TaskPlays facts opening means) (to_judge_in old.house_log entries) s.so_far.moments (told-so now wanting t.more.0) s.so_far.plays in
+    let one : PlaysAll now 0 (TaskPlays basis means) (to_judge_in old.house_log (entry ∷ [])) t.moments = subst (λ (ts : List Task). PlaysAll now 0 (TaskPlays basis means) ts t.moments) same t.more.1 in
+    let before : PlaysAll now 0 (TaskPlays basis means) (to_judge_in old.house_log entries) s.so_far.moments = so-told false wanting now 0 (TaskPlays basis means) (to_judge_in old.house_log entries) s.so_far.moments (told-so now wanting t.more.0) s.so_far.plays in
     record {
       so_far = record {
         moments = s.so_far.moments ++ t.moments;
         did = did-both 0 s.so_far.moments t.moments (past old) (past mid) (past new) s.so_far.did t.did;
-        plays = subst (λ (ts : List Task). PlaysAll now 0 (TaskPlays facts opening means) ts (s.so_far.moments ++ t.moments)) (sym (judge-append old.house_log.facts (rows_before old.house_log) (past old) entries (entry ∷ [])))
-            (all-append now 0 (TaskPlays facts opening means) (to_judge_in old.house_log entries) (to_judge_in old.house_log (entry ∷ [])) s.so_far.moments t.moments before one);
+        plays = subst (λ (ts : List Task). PlaysAll now 0 (TaskPlays basis means) ts (s.so_far.moments ++ t.moments)) (sym (judge-append (basis_in old.house_log) (past old) entries (entry ∷ [])))
+            (all-append now 0 (TaskPlays basis means) (to_judge_in old.house_log entries) (to_judge_in old.house_log (entry ∷ [])) s.so_far.moments t.moments before one);
         rest = rest-both signs old mid new s.so_far.rest t.rest;
       };
       stays = stays-more entries entry old.house_log mid.house_log new.house_log s.stays stays;
     }
 
 -- The boot is off.
-pub judged-off : {K : Type 0} (signs : Signs K) (facts : Facts) (opening : List Row) (means : Means) (wanting : Bool) (entries others all : List ℕ) (more : List Task) (old mid new : Housed K) → entries ++ others ≡ all → JudgedSoFar signs facts opening means wanting entries old mid
-    → (tasks : List Task) → HouseTried signs facts opening means None wanting tasks mid new → HouseWent signs wanting 0 (TaskPlays facts opening means) (to_judge_in old.house_log all ++ more) old new
-judged-off signs facts opening means wanting entries others all more old mid new e s tasks t =
+pub judged-off : {K : Type 0} (signs : KeeperSigns K) (basis : Basis) (means : Means) (wanting : Bool) (entries others all : List ℕ) (more : List Task) (old mid new : Housed K) → entries ++ others ≡ all → JudgedSoFar signs basis means wanting entries old mid
+    → (tasks : List Task) → HouseTried signs basis means None wanting tasks mid new → HouseWent signs wanting 0 (TaskPlays basis means) (to_judge_in old.house_log all ++ more) old new
+judged-off signs basis means wanting entries others all more old mid new e s tasks t =
     let rest = to_judge_in old.house_log others ++ more in
     let split : to_judge_in old.house_log all ++ more ≡ to_judge_in old.house_log entries ++ rest =
     ap (λ (es : List ℕ). to_judge_in old.house_log es ++ more) (sym e)
-    ∙ ap (λ (ts : List Task). ts ++ more) (judge-append old.house_log.facts (rows_before old.house_log) (past old) entries others)
+    ∙ ap (λ (ts : List Task). ts ++ more) (judge-append (basis_in old.house_log) (past old) entries others)
     ∙ append_assoc (to_judge_in old.house_log entries) (to_judge_in old.house_log others) more
     in
-    let none : PlaysUntil wanting 0 (TaskPlays facts opening means) rest t.moments = subst (λ (m : List Moment). PlaysUntil wanting 0 (TaskPlays facts opening means) rest m) (sym t.more.0) (until-nothing wanting 0 (TaskPlays facts opening means) rest (task-unplayed facts opening means 0)) in
+    let none : PlaysUntil wanting 0 (TaskPlays basis means) rest t.moments = subst (λ (m : List Moment). PlaysUntil wanting 0 (TaskPlays basis means) rest m) (sym t.more.0) (until-nothing wanting 0 (TaskPlays basis means) rest (task-unplayed basis means 0)) in
     record {
       went = record {
         moments = s.so_far.moments ++ t.moments;
         did = did-both 0 s.so_far.moments t.moments (past old) (past mid) (past new) s.so_far.did t.did;
-        plays = subst (λ (ts : List Task). PlayedSo (off (past new)) wanting 0 (TaskPlays facts opening means) ts (s.so_far.moments ++ t.moments)) (sym split)
-            (so-left (off (past new)) wanting 0 (TaskPlays facts opening means) (to_judge_in old.house_log entries ++ rest) (s.so_far.moments ++ t.moments) t.more.1
-            (until-append wanting 0 (TaskPlays facts opening means) (to_judge_in old.house_log entries) rest s.so_far.moments t.moments s.so_far.plays none));
+        plays = subst (λ (ts : List Task). PlayedSo (off (past new)) wanting 0 (TaskPlays basis means) ts (s.so_far.moments ++ t.moments)) (sym split)
+            (so-left (off (past new)) wanting 0 (TaskPlays basis means) (to_judge_in old.house_log entries ++ rest) (s.so_far.moments ++ t.moments) t.more.1
+            (until-append wanting 0 (TaskPlays basis means) (to_judge_in old.house_log entries) rest s.so_far.moments t.moments s.so_far.plays none));
       };
       rest = rest-both signs old mid new s.so_far.rest t.rest;
     }
@@ -215,19 +214,19 @@ known-turn entries i old mid lt a k s =
     let r = turn-known old (take i entries) (get_or entries i 0) (drop (suc i) entries) (subst (AllKnown old) (sym e) k) in
     (r.0, s.rows (get_or entries i 0) n ∙ r.1)
 
-pub judged-turn : {K : Type 0} (signs : Signs K) (facts : Facts) (opening : List Row) (means : Means) (now wanting : Bool) (entries : List ℕ) (i : ℕ) (old mid new : Housed K) → i < length entries → AreApart entries → IsIdle (past old) → JudgedSoFar signs facts opening means wanting (take i entries) old mid
-    → HouseTried signs facts opening means (Some now) wanting (to_judge_in mid.house_log (get_or entries i 0 ∷ [])) mid new → JudgeStays (get_or entries i 0 ∷ []) mid.house_log new.house_log → JudgedSoFar signs facts opening means now (take (i + 1) entries) old new
-judged-turn signs facts opening means now wanting entries i old mid new lt a idle s t stays =
+pub judged-turn : {K : Type 0} (signs : KeeperSigns K) (basis : Basis) (means : Means) (now wanting : Bool) (entries : List ℕ) (i : ℕ) (old mid new : Housed K) → i < length entries → AreApart entries → IsIdle (past old) → JudgedSoFar signs basis means wanting (take i entries) old mid
+    → HouseTried signs basis means (Some now) wanting (to_judge_in mid.house_log (get_or entries i 0 ∷ [])) mid new → JudgeStays (get_or entries i 0 ∷ []) mid.house_log new.house_log → JudgedSoFar signs basis means now (take (i + 1) entries) old new
+judged-turn signs basis means now wanting entries i old mid new lt a idle s t stays =
     let n = not-before (take i entries) (get_or entries i 0) (drop (suc i) entries) entries (taken-here entries i 0 lt) a in
-    subst (λ (es : List ℕ). JudgedSoFar signs facts opening means now es old new) (taken-more entries i 0 lt)
-    (judged-more signs facts opening means now wanting (take i entries) (get_or entries i 0) old mid new idle n s t stays)
+    subst (λ (es : List ℕ). JudgedSoFar signs basis means now es old new) (taken-more entries i 0 lt)
+    (judged-more signs basis means now wanting (take i entries) (get_or entries i 0) old mid new idle n s t stays)
 
-pub off-turn : {K : Type 0} (signs : Signs K) (facts : Facts) (opening : List Row) (means : Means) (wanting : Bool) (entries : List ℕ) (i : ℕ) (old mid new : Housed K) → i < length entries → JudgedSoFar signs facts opening means wanting (take i entries) old mid → (tasks : List Task) → HouseTried signs facts opening means None wanting tasks mid new
-    → (more : List Task) → HouseWent signs wanting 0 (TaskPlays facts opening means) (to_judge_in old.house_log entries ++ more) old new
-off-turn signs facts opening means wanting entries i old mid new lt s tasks t more =
-    judged-off signs facts opening means wanting (take i entries) (get_or entries i 0 ∷ drop (suc i) entries) entries more old mid new (taken-here entries i 0 lt) s tasks t
+pub off-turn : {K : Type 0} (signs : KeeperSigns K) (basis : Basis) (means : Means) (wanting : Bool) (entries : List ℕ) (i : ℕ) (old mid new : Housed K) → i < length entries → JudgedSoFar signs basis means wanting (take i entries) old mid → (tasks : List Task) → HouseTried signs basis means None wanting tasks mid new
+    → (more : List Task) → HouseWent signs wanting 0 (TaskPlays basis means) (to_judge_in old.house_log entries ++ more) old new
+off-turn signs basis means wanting entries i old mid new lt s tasks t more =
+    judged-off signs basis means wanting (take i entries) (get_or entries i 0 ∷ drop (suc i) entries) entries more old mid new (taken-here entries i 0 lt) s tasks t
 
-pub judged-end : {K : Type 0} (signs : Signs K) (facts : Facts) (opening : List Row) (means : Means) (wanting : Bool) (entries : List ℕ) (i : ℕ) (old new : Housed K) → length entries ≤ i → JudgedSoFar signs facts opening means wanting (take i entries) old new → SoFar signs wanting 0 (TaskPlays facts opening means) (to_judge_in old.house_log entries) old new × RowsStay entries old.house_log new.house_log
-judged-end signs facts opening means wanting entries i old new le s =
-    let whole : JudgedSoFar signs facts opening means wanting entries old new = subst (λ (es : List ℕ). JudgedSoFar signs facts opening means wanting es old new) (take_all i entries le) s in
+pub judged-end : {K : Type 0} (signs : KeeperSigns K) (basis : Basis) (means : Means) (wanting : Bool) (entries : List ℕ) (i : ℕ) (old new : Housed K) → length entries ≤ i → JudgedSoFar signs basis means wanting (take i entries) old new → SoFar signs wanting 0 (TaskPlays basis means) (to_judge_in old.house_log entries) old new × RowsStay entries old.house_log new.house_log
+judged-end signs basis means wanting entries i old new le s =
+    let whole : JudgedSoFar signs basis means wanting entries old new = subst (λ (es : List ℕ). JudgedSoFar signs basis means wanting es old new) (take_all i entries le) s in
     (whole.so_far, whole.stays.rows)

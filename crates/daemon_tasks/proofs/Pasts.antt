@@ -8,8 +8,7 @@ use Rattle.script_runs.proofs.OwnMoments.{one-more}
 use Rattle.shared_daemon.proofs.Others.{some-boots}
 use Rattle.update_log.proofs.Lists.{by_test}
 use Rattle.update_log.specs.declared.event.Event.{Event}
-use Rattle.update_log.specs.CoreFolds.{AllFaults}
-use Rattle.update_log.specs.Pasts.{boots, is_boot, meets_fault, off, past_of, puts_off}
+use Rattle.update_log.specs.Pasts.{AllFaults, boots, is_boot, meets_fault, off, past_of, puts_off}
 use Rattle.daemon_core.specs.Keeping.{last_faulted}
 use Rattle.client_plays.specs.Moments.{Grew}
 use Rattle.shared_daemon.specs.declared.entry.Entry.{Entry}

@@ -13,7 +13,7 @@ use Rattle.update_log.specs.declared.live.Held.{Held}
 use Rattle.update_log.specs.declared.refusal.FetchNote.{FetchNote}
 use Rattle.update_log.specs.declared.refusal.Refusal.{Refusal}
 use Rattle.update_log.specs.declared.request.Request.{Request}
-use Rattle.update_log.specs.Holding.{hold, hold_of, holds, live, without_client}
+use Rattle.update_log.specs.Holding.{hold_of, holds, without_client}
 use Rattle.update_log.specs.Known.{Target, target}
 use Rattle.update_log.specs.Legal.{IsFree, ask_answer}
 use Rattle.update_log.specs.Pasts.{client_of, is_boot, last_of}
@@ -109,40 +109,40 @@ module _ {did : List Entry → List Entry → Type 0} (name : Name) (lock : Lock
 
   module _ (means : Means) (entry : ℕ) where
     -- The update of an entry that begins follows on its resumption.
-    pub resume-behind : (asked : AskAnswer) (note : Option FetchNote) (stored : Stored) (taken : ℕ) (played : Played) (new : PassView Entry) → ResumeFetches name.facts means.files asked note → Adds 0 (Event.Resume 0 entry note ResumeAnswer.Begun stored) t.met mid.seen → played ≢ Played.NoMemory → taken ≡ entry
-        → Ended played (UpdatePlays name.facts name.opening means.plugins mid.number taken (past_seen mid.seen)) mid new → Ended played (ResumePlays name.facts name.opening means entry asked) old new
+    pub resume-behind : (asked : AskAnswer) (note : Option FetchNote) (stored : Stored) (taken : ℕ) (played : Played) (new : PassView Entry) → ResumeFetches name.basis.facts means.files asked note → Adds 0 (Event.Resume 0 entry note ResumeAnswer.Begun stored) t.met mid.seen → played ≢ Played.NoMemory → taken ≡ entry
+        → Ended played (UpdatePlays name.basis means.plugins mid.number taken (past_seen mid.seen)) mid new → Ended played (ResumePlays name.basis means entry asked) old new
     resume-behind asked note stored taken played new f a room q e =
         let event : Event = Event.Resume 0 entry note ResumeAnswer.Begun stored in
-        ended-behind played (ResumePlays name.facts name.opening means entry asked) (UpdatePlays name.facts name.opening means.plugins 0 entry (event ∷ past_seen t.met)) (at (past_seen t.met) event) old mid new
+        ended-behind played (ResumePlays name.basis means entry asked) (UpdatePlays name.basis means.plugins 0 entry (event ∷ past_seen t.met)) (at (past_seen t.met) event) old mid new
         (own-gained event refl refl a) same (λ w. absurd (room w)) (λ ms u. (note, ResumeAnswer.Begun, stored, refl, f, u))
-        (subst (λ (x : ℕ). Ended played (UpdatePlays name.facts name.opening means.plugins 0 x (event ∷ past_seen t.met)) mid new) q
-        (subst (λ (w : List Event). Ended played (UpdatePlays name.facts name.opening means.plugins 0 taken w) mid new) (past-added 0 event t.met mid.seen a)
-        (subst (λ (n : ℕ). Ended played (UpdatePlays name.facts name.opening means.plugins n taken (past_seen mid.seen)) mid new) (same ∙ z) e)))
+        (subst (λ (x : ℕ). Ended played (UpdatePlays name.basis means.plugins 0 x (event ∷ past_seen t.met)) mid new) q
+        (subst (λ (w : List Event). Ended played (UpdatePlays name.basis means.plugins 0 taken w) mid new) (past-added 0 event t.met mid.seen a)
+        (subst (λ (n : ℕ). Ended played (UpdatePlays name.basis means.plugins n taken (past_seen mid.seen)) mid new) (same ∙ z) e)))
 
     -- It was refused, and nothing is out.
-    pub resume-refused : (asked : AskAnswer) (held : Option (Ticket × Fetched)) (refusal : Refusal) (stored : Stored) → ResumeFetches name.facts means.files asked (note_in held) → IsOut held old
-        → Adds 0 (Event.Resume 0 entry (note_in held) (ResumeAnswer.Refused refusal) stored) t.met mid.seen → Ended Played.Done (ResumePlays name.facts name.opening means entry asked) old mid
+    pub resume-refused : (asked : AskAnswer) (held : Option (Ticket × Fetched)) (refusal : Refusal) (stored : Stored) → ResumeFetches name.basis.facts means.files asked (note_in held) → IsOut held old
+        → Adds 0 (Event.Resume 0 entry (note_in held) (ResumeAnswer.Refused refusal) stored) t.met mid.seen → Ended Played.Done (ResumePlays name.basis means entry asked) old mid
     resume-refused asked held refusal stored f o a =
         let event : Event = Event.Resume 0 entry (note_in held) (ResumeAnswer.Refused refusal) stored in
-        ended-last (ResumePlays name.facts name.opening means entry asked) (at (past_seen t.met) event) old mid
+        ended-last (ResumePlays name.basis means entry asked) (at (past_seen t.met) event) old mid
         (note_in held, ResumeAnswer.Refused refusal, stored, refl, f, refl)
         (did-event {did = did} name lock old mid p same t event refl (ap Some (sym z)) (by-own event a) (resume-frees held entry (note_in held) refusal stored o a))
 
     -- It was stopped, and what was out is given back.
-    pub resume-stopped : (asked : AskAnswer) (held kept : Option (Ticket × Fetched)) (stop : Stop) (new : PassView Entry) → ResumeFetches name.facts means.files asked (note_in held) → StoppedIn stop t.met mid.seen
-        → IsPass lock name mid → IsOut kept mid → WasGivenUp name kept mid new → Ended (stopped_as stop) (ResumePlays name.facts name.opening means entry asked) old new
+    pub resume-stopped : (asked : AskAnswer) (held kept : Option (Ticket × Fetched)) (stop : Stop) (new : PassView Entry) → ResumeFetches name.basis.facts means.files asked (note_in held) → StoppedIn stop t.met mid.seen
+        → IsPass lock name mid → IsOut kept mid → WasGivenUp name kept mid new → Ended (stopped_as stop) (ResumePlays name.basis means entry asked) old new
     resume-stopped asked held kept stop new f s q o w = left kept o w
       where
-        left : (kept : Option (Ticket × Fetched)) → IsOut kept mid → WasGivenUp name kept mid new → Ended (stopped_as stop) (ResumePlays name.facts name.opening means entry asked) old new
+        left : (kept : Option (Ticket × Fetched)) → IsOut kept mid → WasGivenUp name kept mid new → Ended (stopped_as stop) (ResumePlays name.basis means entry asked) old new
         left None o w =
-            subst (λ (x : PassView Entry). Ended (stopped_as stop) (ResumePlays name.facts name.opening means entry asked) old x) (sym w)
-            (ended-stopped stop (ResumePlays name.facts name.opening means entry asked) old mid
-            (leaves-nothing old.number (ResumePlays name.facts name.opening means entry asked) (at [] (Event.Resume 0 entry (note_in held) (ResumeAnswer.Refused Refusal.NoDevice) Stored.Yes) ∷ []) (note_in held, ResumeAnswer.Refused Refusal.NoDevice, Stored.Yes, refl, f, refl))
+            subst (λ (x : PassView Entry). Ended (stopped_as stop) (ResumePlays name.basis means entry asked) old x) (sym w)
+            (ended-stopped stop (ResumePlays name.basis means entry asked) old mid
+            (leaves-nothing old.number (ResumePlays name.basis means entry asked) (at [] (Event.Resume 0 entry (note_in held) (ResumeAnswer.Refused Refusal.NoDevice) Stored.Yes) ∷ []) (note_in held, ResumeAnswer.Refused Refusal.NoDevice, Stored.Yes, refl, f, refl))
             (stopped-off old.number (λ (_ : Unit {0}). Event.Cut) stop t.met mid.seen (stopped-turn stop s))
             (record { same = same; own_are = stopped-same stop s ∙ sym (append-nil (own old)); free = o }))
         left (Some x) o w =
-            ended-after (stopped_as stop) (ResumePlays name.facts name.opening means entry asked) old mid new (stopped-same stop s) same
-            (play-left name lock x.0.request mid new q w.same w.turn (ResumePlays name.facts name.opening means entry asked) (at [] (Event.Resume 0 entry (note_in held) (ResumeAnswer.Refused Refusal.NoDevice) Stored.Yes) ∷ [])
+            ended-after (stopped_as stop) (ResumePlays name.basis means entry asked) old mid new (stopped-same stop s) same
+            (play-left name lock x.0.request mid new q w.same w.turn (ResumePlays name.basis means entry asked) (at [] (Event.Resume 0 entry (note_in held) (ResumeAnswer.Refused Refusal.NoDevice) Stored.Yes) ∷ [])
             stop x.0.pending (held_by x.0 (block_count x.1)) (note_in held, ResumeAnswer.Refused Refusal.NoDevice, Stored.Yes, refl, f, refl)
             (stopped-off old.number (λ (_ : Unit {0}). Event.Cut) stop t.met mid.seen (stopped-turn stop s)) o w.turn.does)
 
@@ -150,18 +150,18 @@ module _ {did : List Entry → List Entry → Type 0} (name : Name) (lock : Lock
 
     -- The resumption follows on it.
     pub asked-behind : (request : Request) (answer : AskAnswer) (played : Played) (new : PassView Entry) → Adds 0 (Event.Ask 0 request (Some entry) answer) t.met mid.seen
-        → Ended played (ResumePlays name.facts name.opening means entry answer) mid new → Ended played (TaskPlays name.facts name.opening means (ToResume entry)) old new
+        → Ended played (ResumePlays name.basis means entry answer) mid new → Ended played (TaskPlays name.basis means (ToResume entry)) old new
     asked-behind request answer played new a e =
         let event : Event = Event.Ask 0 request (Some entry) answer in
-        ended-behind played (TaskPlays name.facts name.opening means (ToResume entry)) (ResumePlays name.facts name.opening means entry answer) (at (past_seen t.met) event) old mid new
+        ended-behind played (TaskPlays name.basis means (ToResume entry)) (ResumePlays name.basis means entry answer) (at (past_seen t.met) event) old mid new
         (own-gained event refl refl a) same (λ w. refl) (λ ms u. (request, answer, refl, u)) e
 
     -- It was stopped.
-    pub ask-stopped : {A : Type 0} (event : A → Event) (told : Played) (stop : Stop) → told ≡ stopped_as stop → IsFreePass old → TurnedIn 0 event (Err stop) t.met mid.seen → Ended told (TaskPlays name.facts name.opening means (ToResume entry)) old mid
+    pub ask-stopped : {A : Type 0} (event : A → Event) (told : Played) (stop : Stop) → told ≡ stopped_as stop → IsFreePass old → TurnedIn 0 event (Err stop) t.met mid.seen → Ended told (TaskPlays name.basis means (ToResume entry)) old mid
     ask-stopped {A} event told stop e f s =
         let turned : TurnedIn old.number event (Err stop) t.met mid.seen = subst (λ (n : ℕ). TurnedIn n event (Err stop) t.met mid.seen) (sym z) s in
-        subst (λ (x : Played). Ended x (TaskPlays name.facts name.opening means (ToResume entry)) old mid) (sym e)
-        (ended-stopped stop (TaskPlays name.facts name.opening means (ToResume entry)) old mid (task-unplayed name.facts name.opening means old.number (ToResume entry))
+        subst (λ (x : Played). Ended x (TaskPlays name.basis means (ToResume entry)) old mid) (sym e)
+        (ended-stopped stop (TaskPlays name.basis means (ToResume entry)) old mid (task-unplayed name.basis means old.number (ToResume entry))
         (stopped-off old.number event stop t.met mid.seen turned) (stopped-did {did = did} name lock old mid p same t event stop f turned))
 
   -- One that was stopped tells no fault.
@@ -211,9 +211,9 @@ present-not_kept c (Some at) = found-not_kept c (target c.facts c.views c.reques
 pub pending-not_kept : (name : Name) (lock : LockId) (pass : PassView Entry) (entry kept : ℕ) (state : RowState) (request : Request) (met : List Entry) → IsPass lock name pass → Adds 0 (Event.Ask 0 request (Some entry) (AskAnswer.Kept kept state)) met pass.seen → ⊥
 pending-not_kept name lock pass entry kept state request met p a =
     let event = Event.Ask 0 request (Some entry) (AskAnswer.Kept kept state) in
-    let l : IsLegalSo name.facts name.first name.opening (event ∷ past_seen met) = subst (λ (x : List Event). IsLegalSo name.facts name.first name.opening x) (past-added 0 event met pass.seen a) p.log.legal in
-    let allowed = l.3.2 in
-    let c : Case = case_of l.0.facts name.opening (past_seen met) 0 request (Stage.AskPending entry) in
+    let l : IsLegalSo name.basis name.first (event ∷ past_seen met) = subst (λ (x : List Event). IsLegalSo name.basis name.first x) (past-added 0 event met pass.seen a) p.log.legal in
+    let allowed = l.1.2 in
+    let c : Case = case_of name.basis (past_seen met) 0 request (Stage.AskPending entry) in
     let bad : true ≡ false = ap is_kept_ask allowed.answer_is ∙ present-not_kept c (present c) in
     cc
 

@@ -10,11 +10,11 @@ use Rattle.update_log.proofs.Lists.{by_test}
 use Rattle.update_log.specs.declared.event.Event.{Event}
 use Rattle.update_log.specs.declared.event.Stored.{Stored}
 use Rattle.update_log.specs.declared.facts.Facts.{Facts}
-use Rattle.update_log.specs.Known.{Fate, fate_stored, row_of, rows, rows_by}
+use Rattle.update_log.specs.Known.{Basis, basis_of, Fate, fate_stored, row_of, rows, rows_by}
 use Rattle.update_log.specs.Pasts.{time_of}
 use Rattle.daemon_core.proofs.HouseLogKept.{appended-past}
 use Rattle.daemon_core.specs.HouseLog.{Appended, SameFacts}
-use Rattle.daemon_core.specs.Housed.{HouseLogView, past_in, rows_before}
+use Rattle.daemon_core.specs.Housed.{basis_in, HouseLogView, past_in, rows_before}
 use Rattle.daemon_core.specs.declared.stop.Stop.{Stop}
 use Rattle.client_plays.proofs.RestLaws.{before-same}
 use Rattle.daemon_tasks.specs.Stays.{rows_at}
@@ -38,25 +38,25 @@ by-fate Fate.Doubtful entry state reason time all other h = refl
 by-fate Fate.Dropped entry state reason time all other h = refl
 
 -- The rows of a house log with the same facts, where this is their past.
-rows-over : (old new : HouseLogView) (p : List Event) → SameFacts old new → past_in new ≡ p → rows_at new ≡ rows old.facts (rows_before old) p
+rows-over : (old new : HouseLogView) (p : List Event) → SameFacts old new → past_in new ≡ p → rows_at new ≡ rows (basis_in old) p
 rows-over old new p s e =
-    ap (λ (f : Facts). rows f (rows_before new) (past_in new)) s.facts
-    ∙ ap (λ (o : List Row). rows old.facts o (past_in new)) (before-same old new s)
-    ∙ ap (λ (w : List Event). rows old.facts (rows_before old) w) e
+    ap (λ (f : Facts). rows (basis_of f (rows_before new)) (past_in new)) s.facts
+    ∙ ap (λ (o : List Row). rows (basis_of old.facts o) (past_in new)) (before-same old new s)
+    ∙ ap (λ (w : List Event). rows (basis_in old) w) e
 
 -- The row of every other entry stays where one is judged.
 pub others-judged : (entry : ℕ) (version : List ℕ) (state : RowState) (stored : Stored) (old new : HouseLogView) → Appended 0 (Event.Judge 0 entry version state stored) old new → (other : ℕ) → (entry == other) ≡ false → row_of (rows_at new) other ≡ row_of (rows_at old) other
 others-judged entry version state stored old new a other h =
     let event = Event.Judge 0 entry version state stored in
     ap (λ (r : List Row). row_of r other) (rows-over old new (event ∷ past_in old) a.same (appended-past 0 event old new a))
-    ∙ by-fate (fate_stored stored) entry state _ (time_of (past_in old)) (rows old.facts (rows_before old) (past_in old)) other h
+    ∙ by-fate (fate_stored stored) entry state _ (time_of (past_in old)) (rows (basis_in old) (past_in old)) other h
 
-cut-row : (facts : Facts) (opening : List Row) (cut : Bool) (past : List Event) (other : ℕ) → row_of (rows facts opening (cut_past cut past)) other ≡ row_of (rows facts opening past) other
-cut-row facts opening true past other = refl
-cut-row facts opening false past other = refl
+cut-row : (basis : Basis) (cut : Bool) (past : List Event) (other : ℕ) → row_of (rows basis (cut_past cut past)) other ≡ row_of (rows basis past) other
+cut-row basis true past other = refl
+cut-row basis false past other = refl
 
 -- Every row stays where a call was stopped.
 pub rows-halted : (stop : Stop) (old new : HouseLogView) → Halted stop old new → (other : ℕ) → row_of (rows_at new) other ≡ row_of (rows_at old) other
 rows-halted stop old new h other =
     ap (λ (r : List Row). row_of r other) (rows-over old new (cut_past h.cut (past_in old)) h.same h.past_is)
-    ∙ cut-row old.facts (rows_before old) h.cut (past_in old) other
+    ∙ cut-row (basis_in old) h.cut (past_in old) other

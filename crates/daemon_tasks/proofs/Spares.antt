@@ -5,18 +5,17 @@ use Rattle.std.specs.List.{AllByRecursion, list_any}
 use Rattle.block_pool.specs.Views.{SealedBytes}
 use Rattle.emulated_boards.specs.Boards.{BoardState}
 use Rattle.plugin_trait.specs.Steps.{PluginSteps}
-use Rattle.history_keeper.specs.declared.row.Row.{Row}
 use Rattle.update_log.proofs.Lists.{All-append}
 use Rattle.update_log.specs.declared.answer.AskAnswer.{AskAnswer}
 use Rattle.update_log.specs.declared.answer.ResumeAnswer.{ResumeAnswer}
 use Rattle.update_log.specs.declared.event.Event.{Event}
-use Rattle.update_log.specs.declared.facts.Facts.{Facts}
 use Rattle.client_plays.specs.Left.{PlayedOrLeft}
 use Rattle.client_plays.specs.Moments.{Moment, behind}
 use Rattle.client_plays.specs.Plays.{AfterResume, GivesBack, Leaves, ResumePlays, StepsPlay, TaskPlays, ToResume}
 use Rattle.client_plays.specs.Scripts.{PlaysAll}
 use Rattle.client_plays.specs.Tools.{Means}
 use Rattle.shared_daemon.proofs.OthersRows.{advances}
+use Rattle.update_log.specs.Known.{Basis}
 
 -- None of these moments asks for another state of the entry's row.
 abbrev pub Spares : ℕ → List Moment → Type 0
@@ -37,17 +36,17 @@ module _ (entry other : ℕ) (n : (entry == other) ≡ false) where
   steps-spare steps client payload board (m ∷ k ∷ moments) u =
       (ap (advances other) u.1.started_is, (ap (advances other) u.1.ended_is, steps-spare steps client payload u.0 moments u.2))
 
-  after-spares : (facts : Facts) (opening : List Row) (plugins : ℕ → PluginSteps) (past : List Event) (answer : ResumeAnswer) (moments : List Moment) → AfterResume facts opening plugins entry past answer moments → Spares other moments
-  after-spares facts opening plugins past ResumeAnswer.Begun moments u = steps-spare (plugins u.place) 0 u.payload u.board moments u.plays
-  after-spares facts opening plugins past (ResumeAnswer.Refused refusal) moments u = subst (Spares other) (sym u) tt
+  after-spares : (basis : Basis) (plugins : ℕ → PluginSteps) (past : List Event) (answer : ResumeAnswer) (moments : List Moment) → AfterResume basis plugins entry past answer moments → Spares other moments
+  after-spares basis plugins past ResumeAnswer.Begun moments u = steps-spare (plugins u.place) 0 u.payload u.board moments u.plays
+  after-spares basis plugins past (ResumeAnswer.Refused refusal) moments u = subst (Spares other) (sym u) tt
 
-  resume-spares : (facts : Facts) (opening : List Row) (means : Means) (asked : AskAnswer) (moments : List Moment) → ResumePlays facts opening means entry asked moments → Spares other moments
-  resume-spares facts opening means asked [] u = absurd u
-  resume-spares facts opening means asked (m ∷ moments) u = (ap (advances other) u.3 ∙ n, after-spares facts opening means.plugins (behind m) u.1 moments u.5)
+  resume-spares : (basis : Basis) (means : Means) (asked : AskAnswer) (moments : List Moment) → ResumePlays basis means entry asked moments → Spares other moments
+  resume-spares basis means asked [] u = absurd u
+  resume-spares basis means asked (m ∷ moments) u = (ap (advances other) u.3 ∙ n, after-spares basis means.plugins (behind m) u.1 moments u.5)
 
-  task-spares : (facts : Facts) (opening : List Row) (means : Means) (moments : List Moment) → TaskPlays facts opening means (ToResume entry) moments → Spares other moments
-  task-spares facts opening means [] u = absurd u
-  task-spares facts opening means (m ∷ moments) u = (ap (advances other) u.2, resume-spares facts opening means u.1 moments u.3)
+  task-spares : (basis : Basis) (means : Means) (moments : List Moment) → TaskPlays basis means (ToResume entry) moments → Spares other moments
+  task-spares basis means [] u = absurd u
+  task-spares basis means (m ∷ moments) u = (ap (advances other) u.2, resume-spares basis means u.1 moments u.3)
 
 back-spares : (other client : ℕ) (moments : List Moment) → GivesBack client moments → Spares other moments
 back-spares other client [] g = tt
@@ -66,12 +65,12 @@ module _ (other client : ℕ) (Play : List Moment → Type 0) (h : (moments : Li
   one-spares false moments p = h moments p
 
 -- Entries that were resumed leave the row of each other entry alone.
-pub all-spare : (facts : Facts) (opening : List Row) (means : Means) (wanting : Bool) (other : ℕ) (entries : List ℕ) (moments : List Moment) → list_any (λ e. e == other) entries ≡ false
-    → PlaysAll wanting 0 (TaskPlays facts opening means) (map ToResume entries) moments → Spares other moments
-all-spare facts opening means wanting other [] moments n p = subst (Spares other) (sym p) tt
-all-spare facts opening means wanting other (entry ∷ entries) moments n p =
+pub all-spare : (basis : Basis) (means : Means) (wanting : Bool) (other : ℕ) (entries : List ℕ) (moments : List Moment) → list_any (λ e. e == other) entries ≡ false
+    → PlaysAll wanting 0 (TaskPlays basis means) (map ToResume entries) moments → Spares other moments
+all-spare basis means wanting other [] moments n p = subst (Spares other) (sym p) tt
+all-spare basis means wanting other (entry ∷ entries) moments n p =
     let q = or-none (entry == other) (list_any (λ e. e == other) entries) n in
     subst (Spares other) (sym p.are)
     (All-append (λ m. advances other m.event ≡ false) p.first p.rest
-    (one-spares other 0 (TaskPlays facts opening means (ToResume entry)) (task-spares entry other q.0 facts opening means) wanting p.first p.first_is)
-    (all-spare facts opening means wanting other entries p.rest q.1 p.rest_is))
+    (one-spares other 0 (TaskPlays basis means (ToResume entry)) (task-spares entry other q.0 basis means) wanting p.first p.first_is)
+    (all-spare basis means wanting other entries p.rest q.1 p.rest_is))

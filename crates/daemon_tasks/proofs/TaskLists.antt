@@ -5,18 +5,17 @@ use Rattle.std.specs.Prelude.{Option, Some, ◌==◌, filter, option_map, unwrap
 use Rattle.std.specs.List.{AllByRecursion, list_any}
 use Rattle.history_keeper.specs.declared.row.Row.{Row}
 use Rattle.history_keeper.specs.declared.row.RowState.{RowState}
+use Rattle.history_keeper.specs.Signs.{KeeperSigns}
 use Rattle.update_log.proofs.Lists.{by_test, eqb-other}
 use Rattle.update_log.proofs.Openings.{EntriesFrom}
 use Rattle.update_log.proofs.WaitsOnce.{found-own}
 use Rattle.update_log.specs.declared.event.Event.{Event}
-use Rattle.update_log.specs.declared.facts.Facts.{Facts}
-use Rattle.update_log.specs.Known.{row_of, rows, views}
+use Rattle.update_log.specs.Known.{Basis, row_of, rows, views}
 use Rattle.update_log.specs.Legal.{may_judge}
 use Rattle.update_log.specs.Pasts.{off}
 use Rattle.daemon_core.proofs.BoardsQuiet.{kept-so}
 use Rattle.daemon_core.specs.HouseLog.{IsHouseLog}
-use Rattle.daemon_core.specs.Housed.{HouseLogView, Housed, past, past_in, rows_before}
-use Rattle.daemon_core.specs.Turns.{Signs}
+use Rattle.daemon_core.specs.Housed.{basis_in, HouseLogView, Housed, past, past_in}
 use Rattle.offline_updates.specs.Waiting.{entries_where, is_pending, is_to_judge}
 use Rattle.client_plays.specs.Endings.{HouseWent, IsFresh, IsIdle, SoFar}
 use Rattle.client_plays.specs.Moments.{Moment, began}
@@ -126,19 +125,19 @@ judge-only past entry RowState.NeedsReboot h = cc
 judge-only past entry RowState.Begun h = cc
 judge-only past entry _ h = refl
 
-module _ (facts : Facts) (opening : List Row) (p : List Event) where
-  judged-tasks : (all : List Row) → AllByRecursion (λ r. row_of (rows facts opening p) r.entry ≡ Some r) all
-      → map ToJudge (filter (can_judge facts opening p) (entries_where is_to_judge all)) ≡ map (λ row. ToJudge row.entry) (filter (is_judgeable p (views facts opening p)) all)
+module _ (basis : Basis) (p : List Event) where
+  judged-tasks : (all : List Row) → AllByRecursion (λ r. row_of (rows basis p) r.entry ≡ Some r) all
+      → map ToJudge (filter (can_judge basis p) (entries_where is_to_judge all)) ≡ map (λ row. ToJudge row.entry) (filter (is_judgeable p (views basis p)) all)
   judged-tasks [] f = refl
   judged-tasks (r ∷ all) f =
-      let J = is_judgeable p (views facts opening p) in
-      let rest : map ToJudge (filter (can_judge facts opening p) (entries_where is_to_judge all)) ≡ map (λ row. ToJudge row.entry) (filter J all) = judged-tasks all f.1 in
-      let own : can_judge facts opening p r.entry ≡ J r = ap (λ (o : Option Row). unwrap_or (option_map J o) false) f.0 in
+      let J = is_judgeable p (views basis p) in
+      let rest : map ToJudge (filter (can_judge basis p) (entries_where is_to_judge all)) ≡ map (λ row. ToJudge row.entry) (filter J all) = judged-tasks all f.1 in
+      let own : can_judge basis p r.entry ≡ J r = ap (λ (o : Option Row). unwrap_or (option_map J o) false) f.0 in
       by_test (is_to_judge r.state) _
       (λ t.
       by_test (J r) _
-      (λ u. let c : can_judge facts opening p r.entry ≡ true = own ∙ u in rw (t, u, c) (ap (λ (ts : List Task). ToJudge r.entry ∷ ts) rest))
-      (λ u. let c : can_judge facts opening p r.entry ≡ false = own ∙ u in rw (t, u, c) rest))
+      (λ u. let c : can_judge basis p r.entry ≡ true = own ∙ u in rw (t, u, c) (ap (λ (ts : List Task). ToJudge r.entry ∷ ts) rest))
+      (λ u. let c : can_judge basis p r.entry ≡ false = own ∙ u in rw (t, u, c) rest))
       (λ t.
       let m : may_judge p r.state r.entry ≡ false = judge-only p r.entry r.state t in
       let u : J r ≡ false = first-false (may_judge p r.state r.entry) _ m in
@@ -151,7 +150,7 @@ module _ (facts : Facts) (opening : List Row) (p : List Event) where
 
 -- The rows of a house log count from 1, and each is that of its entry.
 rows-from : (a : HouseLogView) → IsHouseLog a → EntriesFrom 1 (rows_at a)
-rows-from a k = (kept-so a.facts a.first (rows_before a) (past_in a) k.stands.history k.legal).rows_kept.valid.entries
+rows-from a k = (kept-so (basis_in a) a.first (past_in a) k.stands.history k.legal).rows_kept.valid.entries
 
 module _ (a : HouseLogView) (k : IsHouseLog a) where
   own-rows : AllByRecursion (λ r. row_of (rows_at a) r.entry ≡ Some r) (rows_at a)
@@ -176,17 +175,17 @@ module _ (a : HouseLogView) (k : IsHouseLog a) where
       (where-none is_to_judge is_pending 1 (rows_at a) judged-excludes (rows-from a k)))
 
   -- They are the tasks.
-  tasks-now : (p : List Event) → IsFresh p → past_in a ≡ p → tasks a.facts (rows_before a) (began p) ≡ map (λ row. ToJudge row.entry) (filter (is_judgeable (past_in a) (views a.facts (rows_before a) (past_in a))) (rows_at a)) ++ map ToResume (entries_where is_pending (rows_at a))
+  tasks-now : (p : List Event) → IsFresh p → past_in a ≡ p → tasks (basis_in a) (began p) ≡ map (λ row. ToJudge row.entry) (filter (is_judgeable (past_in a) (views (basis_in a) (past_in a))) (rows_at a)) ++ map ToResume (entries_where is_pending (rows_at a))
   tasks-now p fresh e =
       let whole : began p ≡ fresh.boot ∷ fresh.before = ap began fresh.are ∙ rw fresh.is refl in
       let q : past_in a ≡ fresh.boot ∷ fresh.before = e ∙ fresh.are in
-      ap (tasks a.facts (rows_before a)) whole
-      ∙ ap (λ (w : List Event). map (λ row. ToJudge row.entry) (filter (is_judgeable w (views a.facts (rows_before a) w)) (rows a.facts (rows_before a) w)) ++ map ToResume (entries_where is_pending (rows a.facts (rows_before a) w))) (sym q)
+      ap (tasks (basis_in a)) whole
+      ∙ ap (λ (w : List Event). map (λ row. ToJudge row.entry) (filter (is_judgeable w (views (basis_in a) w)) (rows (basis_in a) w)) ++ map ToResume (entries_where is_pending (rows (basis_in a) w))) (sym q)
 
-  pub tasks-are : (judged waiting : List ℕ) → IsFresh (past_in a) → judged ≡ entries_where is_to_judge a.core.rows → waiting ≡ entries_where is_pending a.core.rows → tasks a.facts (rows_before a) (began (past_in a)) ≡ to_judge_in a judged ++ map ToResume waiting
+  pub tasks-are : (judged waiting : List ℕ) → IsFresh (past_in a) → judged ≡ entries_where is_to_judge a.core.rows → waiting ≡ entries_where is_pending a.core.rows → tasks (basis_in a) (began (past_in a)) ≡ to_judge_in a judged ++ map ToResume waiting
   tasks-are judged waiting fresh e f =
       tasks-now (past_in a) fresh refl
-      ∙ ap (λ (ts : List Task). ts ++ map ToResume (entries_where is_pending (rows_at a))) (sym (judged-tasks a.facts (rows_before a) (past_in a) (rows_at a) own-rows))
+      ∙ ap (λ (ts : List Task). ts ++ map ToResume (entries_where is_pending (rows_at a))) (sym (judged-tasks (basis_in a) (past_in a) (rows_at a) own-rows))
       ∙ ap (λ (es : List ℕ). to_judge_in a es ++ map ToResume (entries_where is_pending (rows_at a))) (sym (e ∙ ap (entries_where is_to_judge) k.stands.rows))
       ∙ ap (λ (es : List ℕ). to_judge_in a judged ++ map ToResume es) (sym (f ∙ ap (entries_where is_pending) k.stands.rows))
 
@@ -207,7 +206,7 @@ or-first true now e = refl
 or-first false now e = cc
 
 -- Those to judge were gone through, and then the others.
-pub went-both : {K : Type 0} (signs : Signs K) (Play : Task → List Moment → Type 0) (wanting now : Bool) (first others : List Task) (old mid new : Housed K) → SoFar signs wanting 0 Play first old mid → HouseWent signs now 0 Play others mid new → HouseWent signs (wanting || now) 0 Play (first ++ others) old new
+pub went-both : {K : Type 0} (signs : KeeperSigns K) (Play : Task → List Moment → Type 0) (wanting now : Bool) (first others : List Task) (old mid new : Housed K) → SoFar signs wanting 0 Play first old mid → HouseWent signs now 0 Play others mid new → HouseWent signs (wanting || now) 0 Play (first ++ others) old new
 went-both signs Play wanting now first others old mid new s m =
     record {
       went = record {
@@ -225,27 +224,27 @@ none-left [] e = refl
 none-left (x ∷ entries) e = let z : length (x ∷ entries) ≡ 0 = eqb-true (length (x ∷ entries)) 0 e in absurd (omega arith)
 
 -- There is nothing to do.
-pub went-none : {K : Type 0} (signs : Signs K) (Play : Task → List Moment → Type 0) (list : List Task) (h : Housed K) → IsIdle (past h) → list ≡ [] → HouseWent signs false 0 Play list h h
+pub went-none : {K : Type 0} (signs : KeeperSigns K) (Play : Task → List Moment → Type 0) (list : List Task) (h : Housed K) → IsIdle (past h) → list ≡ [] → HouseWent signs false 0 Play list h h
 went-none signs Play list h i e =
     subst (λ (ts : List Task). HouseWent signs false 0 Play ts h h) (sym e)
     (record { went = record { moments = []; did = did-nothing 0 (past h); plays = so-all (off (past h)) false 0 Play [] [] refl }; rest = rest-here signs h i })
 
 -- The boot was off before anything was done.
-pub went-off : {K : Type 0} (signs : Signs K) (facts : Facts) (opening : List Row) (means : Means) (list : List Task) (h : Housed K) → IsIdle (past h) → off (past h) ≡ true → HouseWent signs false 0 (TaskPlays facts opening means) list h h
-went-off signs facts opening means list h i o =
+pub went-off : {K : Type 0} (signs : KeeperSigns K) (basis : Basis) (means : Means) (list : List Task) (h : Housed K) → IsIdle (past h) → off (past h) ≡ true → HouseWent signs false 0 (TaskPlays basis means) list h h
+went-off signs basis means list h i o =
     record {
       went = record {
         moments = [];
         did = did-nothing 0 (past h);
-        plays = so-left (off (past h)) false 0 (TaskPlays facts opening means) list [] o (until-nothing false 0 (TaskPlays facts opening means) list (task-unplayed facts opening means 0));
+        plays = so-left (off (past h)) false 0 (TaskPlays basis means) list [] o (until-nothing false 0 (TaskPlays basis means) list (task-unplayed basis means 0));
       };
       rest = rest-here signs h i;
     }
 
 -- Memory was wanting before anything was done.
-pub went-nothing : {K : Type 0} (signs : Signs K) (facts : Facts) (opening : List Row) (means : Means) (list : List Task) (h : Housed K) → IsIdle (past h) → HouseWent signs true 0 (TaskPlays facts opening means) list h h
-went-nothing signs facts opening means list h i =
+pub went-nothing : {K : Type 0} (signs : KeeperSigns K) (basis : Basis) (means : Means) (list : List Task) (h : Housed K) → IsIdle (past h) → HouseWent signs true 0 (TaskPlays basis means) list h h
+went-nothing signs basis means list h i =
     record {
-      went = record { moments = []; did = did-nothing 0 (past h); plays = so-all (off (past h)) true 0 (TaskPlays facts opening means) list [] (all-nothing facts opening means list) };
+      went = record { moments = []; did = did-nothing 0 (past h); plays = so-all (off (past h)) true 0 (TaskPlays basis means) list [] (all-nothing basis means list) };
       rest = rest-here signs h i;
     }

@@ -8,11 +8,10 @@ use Rattle.history_keeper.specs.declared.row.RowState.{RowState}
 use Rattle.history_keeper.specs.Histories.{IsHistory}
 use Rattle.update_log.proofs.Lists.{by_test}
 use Rattle.update_log.specs.declared.event.Event.{Event}
-use Rattle.update_log.specs.declared.facts.Facts.{Facts}
 use Rattle.update_log.specs.Known.{row_of, rows}
 use Rattle.update_log.specs.Legal.{IsLegal}
 use Rattle.update_log.specs.Pasts.{is_boot, is_of}
-use Rattle.update_log.specs.Shows.{Campaign}
+use Rattle.update_log.specs.Shows.{campaign_on, Campaign}
 use Rattle.client_plays.specs.Moments.{Grew, Moment, at, mine}
 use Rattle.client_plays.specs.Plays.{TaskPlays, ToResume}
 use Rattle.client_plays.specs.Scripts.{PlaysAll}
@@ -25,7 +24,8 @@ use Rattle.shared_daemon.specs.declared.entry.Entry.{Entry}
 use Rattle.shared_daemon.specs.Entries.{past_seen}
 use Rattle.shared_daemon.specs.Names.{IsLogOf, IsPass, Name}
 use Rattle.shared_daemon.proofs.OthersRows.{advances, row-same, unadvanced}
-use Rattle.script_runs.specs.Passes.{EndedMore, SoFar, own}
+use Rattle.script_runs.proofs.GoingLaws.{EndedMore}
+use Rattle.script_runs.specs.Passes.{SoFar, own}
 use Rattle.daemon_tasks.specs.Waits.{AllWait, AreApart, WaitsIn, rows_seen}
 use Rattle.daemon_tasks.proofs.JudgeLoops.{not-before}
 use Rattle.daemon_tasks.proofs.Pasts.{log-grew}
@@ -58,18 +58,18 @@ mine-since client (event ∷ newer) past b =
     (λ f. mine-other client (newer ++ past) event p.0 f ∙ rest ∙ ap (λ (l : List Moment). mine client past ++ l) (sym (since-other client event newer past f)))
 
 -- Of such a row the daemon's own events alone ask for another state.
-row-waits : (c : Campaign) (opening : List Row) (newer past : List Event) (entry : ℕ) (row : Row) → IsHistory opening → IsLegal c opening (newer ++ past) → list_any is_boot newer ≡ false → Spares entry (since 0 newer past)
-    → row_of (rows c.facts opening past) entry ≡ Some row → row.state ≡ RowState.Pending → row_of (rows c.facts opening (newer ++ past)) entry ≡ Some row
-row-waits c opening [] past entry row v legal b s is w = is
-row-waits c opening (event ∷ newer) past entry row v legal b s is w =
+row-waits : (c : Campaign) (newer past : List Event) (entry : ℕ) (row : Row) → IsHistory c.basis.opening → IsLegal c (newer ++ past) → list_any is_boot newer ≡ false → Spares entry (since 0 newer past)
+    → row_of (rows c.basis past) entry ≡ Some row → row.state ≡ RowState.Pending → row_of (rows c.basis (newer ++ past)) entry ≡ Some row
+row-waits c [] past entry row v legal b s is w = is
+row-waits c (event ∷ newer) past entry row v legal b s is w =
     let p = or-none (is_boot event) (list_any is_boot newer) b in
     by_test (is_of 0 event) _
     (λ t.
     let all = all-parts (λ m. advances entry m.event ≡ false) (since 0 newer past) (at (newer ++ past) event ∷ []) (subst (Spares entry) (since-own 0 event newer past t) s) in
-    row-same c.facts opening (newer ++ past) event entry row p.0 all.1.0 (row-waits c opening newer past entry row v legal.0 p.1 all.0 is w))
+    row-same c.basis (newer ++ past) event entry row p.0 all.1.0 (row-waits c newer past entry row v legal.0 p.1 all.0 is w))
     (λ f.
-    let rest = row-waits c opening newer past entry row v legal.0 p.1 (subst (Spares entry) (since-other 0 event newer past f) s) is w in
-    row-same c.facts opening (newer ++ past) event entry row p.0 (unadvanced c opening (newer ++ past) event entry row v legal.0 legal.2 (record { no_boot = p.0; not_of = f }) rest w) rest)
+    let rest = row-waits c newer past entry row v legal.0 p.1 (subst (Spares entry) (since-other 0 event newer past f) s) is w in
+    row-same c.basis (newer ++ past) event entry row p.0 (unadvanced c (newer ++ past) event entry row v legal.0 legal.2 (record { no_boot = p.0; not_of = f }) rest w) rest)
 
 tail-same : (x : Moment) (xs ys : List Moment) → x ∷ xs ≡ x ∷ ys → xs ≡ ys
 tail-same x xs ys e = cc
@@ -83,17 +83,15 @@ pub still-waits : (name : Name) (log : List Entry) (entry : ℕ) (moments : List
     → WaitsIn (rows_seen name name.start) entry → WaitsIn (rows_seen name log) entry
 still-waits name log entry moments s l e sp w =
     let g : Grew (past_seen name.start) (past_seen log) = log-grew name log s l in
-    let P : List Event → Type 0 = λ p. row_of (rows name.facts name.opening p) entry ≡ Some w.row in
+    let P : List Event → Type 0 = λ p. row_of (rows name.basis p) entry ≡ Some w.row in
     let own : moments ≡ since 0 g.more (past_seen name.start) =
     append-same (mine 0 (past_seen name.start)) moments (since 0 g.more (past_seen name.start)) (sym e ∙ ap (mine 0) g.are ∙ mine-since 0 g.more (past_seen name.start) g.no_boot) in
-    let c : Campaign = l.legal.0 in
-    let F : Facts → List Event → Type 0 = λ f p. row_of (rows f name.opening p) entry ≡ Some w.row in
-    let there : F c.facts (g.more ++ past_seen name.start) =
-    row-waits c name.opening g.more (past_seen name.start) entry w.row l.history (subst (IsLegal c name.opening) g.are l.legal.3) g.no_boot (subst (Spares entry) own sp)
-    (subst (λ (f : Facts). F f (past_seen name.start)) (sym l.legal.1) w.row_is) w.pending in
+    let there : P (g.more ++ past_seen name.start) =
+    row-waits (campaign_on name.basis name.first l.legal.0) g.more (past_seen name.start) entry w.row l.history
+    (subst (IsLegal (campaign_on name.basis name.first l.legal.0)) g.are l.legal.1) g.no_boot (subst (Spares entry) own sp) w.row_is w.pending in
     record {
       row = w.row;
-      row_is = subst P (sym g.are) (subst (λ (f : Facts). F f (g.more ++ past_seen name.start)) l.legal.1 there);
+      row_is = subst P (sym g.are) there;
       pending = w.pending;
     }
 
@@ -111,14 +109,14 @@ next-apart entries i lt a = not-before (take i entries) (get_or entries i 0) (dr
 
 -- An entry that is still to be resumed waits, whatever those before it did.
 pub wait-turn : (name : Name) (lock : LockId) (first pass : PassView Entry) → first.number ≡ 0 → IsFresh name.start first → IsPass lock name first → IsPass lock name pass → (entries : List ℕ) (i : ℕ) → i < length entries → AllWait (rows_seen name name.start) entries → AreApart entries
-    → (wanting : Bool) (means : Means) → SoFar wanting (TaskPlays name.facts name.opening means) (map ToResume (take i entries)) first pass → WaitsIn (rows_seen name pass.seen) (get_or entries i 0)
+    → (wanting : Bool) (means : Means) → SoFar wanting (TaskPlays name.basis means) (map ToResume (take i entries)) first pass → WaitsIn (rows_seen name pass.seen) (get_or entries i 0)
 wait-turn name lock first pass z f p q entries i lt w a wanting means s =
     let start : IsLogOf name name.start = subst (λ (list : List Entry). IsLogOf name list) f.0 p.log in
     let here : own first ≡ mine 0 (past_seen name.start) = ap (λ (n : ℕ). mine n (past_seen first.seen)) z ∙ ap (λ (list : List Entry). mine 0 (past_seen list)) f.0 in
     let now : mine 0 (past_seen pass.seen) ≡ own pass = ap (λ (n : ℕ). mine n (past_seen pass.seen)) (sym (s.did.same ∙ z)) in
     still-waits name pass.seen (get_or entries i 0) s.moments start q.log (now ∙ s.did.own_are ∙ ap (λ (l : List Moment). l ++ s.moments) here)
-    (all-spare name.facts name.opening means wanting (get_or entries i 0) (take i entries) s.moments (next-apart entries i lt a)
-    (subst (λ (n : ℕ). PlaysAll wanting n (TaskPlays name.facts name.opening means) (map ToResume (take i entries)) s.moments) z s.plays))
+    (all-spare name.basis means wanting (get_or entries i 0) (take i entries) s.moments (next-apart entries i lt a)
+    (subst (λ (n : ℕ). PlaysAll wanting n (TaskPlays name.basis means) (map ToResume (take i entries)) s.moments) z s.plays))
     (next-waits (rows_seen name name.start) entries i lt w)
 
 pub resumed-more : (entries : List ℕ) (i : ℕ) → i < length entries → map ToResume (take i entries) ++ ToResume (get_or entries i 0) ∷ [] ≡ map ToResume (take (i + 1) entries)
@@ -128,6 +126,6 @@ pub resumed-here : (entries : List ℕ) (i : ℕ) → i < length entries → map
 resumed-here entries i lt = sym (map-append ToResume (take i entries) (get_or entries i 0 ∷ drop (suc i) entries)) ∙ ap (map ToResume) (taken-here entries i 0 lt)
 
 -- The files of the daemon's shelf are the same all along.
-pub same-resumes : (name : Name) (told : Option Bool) (wanting : Bool) (entry : ℕ) (plugins : ℕ → PluginSteps) (files now : Files) (old new : PassView Entry) → now ≡ files → EndedMore told wanting (TaskPlays name.facts name.opening (means_of now plugins) (ToResume entry)) old new
-    → EndedMore told wanting (TaskPlays name.facts name.opening (means_of files plugins) (ToResume entry)) old new
-same-resumes name told wanting entry plugins files now old new e m = subst (λ (x : Files). EndedMore told wanting (TaskPlays name.facts name.opening (means_of x plugins) (ToResume entry)) old new) e m
+pub same-resumes : (name : Name) (told : Option Bool) (wanting : Bool) (entry : ℕ) (plugins : ℕ → PluginSteps) (files now : Files) (old new : PassView Entry) → now ≡ files → EndedMore told wanting (TaskPlays name.basis (means_of now plugins) (ToResume entry)) old new
+    → EndedMore told wanting (TaskPlays name.basis (means_of files plugins) (ToResume entry)) old new
+same-resumes name told wanting entry plugins files now old new e m = subst (λ (x : Files). EndedMore told wanting (TaskPlays name.basis (means_of x plugins) (ToResume entry)) old new) e m

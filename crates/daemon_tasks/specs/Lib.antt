@@ -4,6 +4,7 @@ pub mod Waits
 pub mod Judged
 pub mod Resumed
 pub use Rattle.turn_lock.specs.Shown
+pub use Rattle.history_keeper.specs.Signs
 pub use Rattle.update_log.specs.Holding
 pub use Rattle.update_log.specs.Known
 pub use Rattle.update_log.specs.Pasts

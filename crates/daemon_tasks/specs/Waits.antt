@@ -10,7 +10,7 @@ use Rattle.shared_daemon.specs.Names.{Name}
 
 -- The rows, as a log of a daemon of this name says them.
 abbrev pub rows_seen : Name → List Entry → List Row
-rows_seen name seen = rows name.facts name.opening (past_seen seen)
+rows_seen name seen = rows name.basis (past_seen seen)
 
 -- The entry has a row among these, and its install was put off.
 pub record WaitsIn (all : List Row) (entry : ℕ) : Type 0 where

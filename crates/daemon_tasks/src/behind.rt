@@ -1,11 +1,11 @@
 //! The house behind a lock that has the daemon's own pass alone, while it resumes what was put off.
 ghost use Rattle.std.specs.Prelude.{◌≡◌, ◌∷◌, ◌≤◌, ◌<◌, [], All, length, map, vec_capacity};
 ghost use Rattle.std.specs.List.{range_with_len};
+ghost use Rattle.history_keeper.specs.Signs.{signs_of};
 ghost use Rattle.plugin_trait.specs.Steps.{steps_at};
 ghost use Rattle.update_log.specs.Pasts.{boots};
 ghost use Rattle.daemon_core.specs.HouseLog.{IsHouseLog};
-ghost use Rattle.daemon_core.specs.Housed.{past, rows_before};
-ghost use Rattle.daemon_core.specs.Turns.{signs_of};
+ghost use Rattle.daemon_core.specs.Housed.{basis_in, past};
 ghost use Rattle.turn_lock.specs.Shown.{IsFresh};
 ghost use Rattle.shared_daemon.specs.Entries.{chronicle, past_seen};
 ghost use Rattle.shared_daemon.specs.Names.{HasNothing, IsLogOf, IsPass, KeepsName};
@@ -19,9 +19,10 @@ ghost use Rattle.daemon_tasks.specs.Stays.{rows_at};
 ghost use Rattle.daemon_tasks.specs.Waits.{AllWait, AreApart, rows_seen};
 
 use crate::resuming::resume_all;
+use claim_runs::Runner;
 use daemon_core::House;
 use history_keeper::Keeper;
-use outer_traits::Shelf;
+use outer_traits::{NoGate, Shelf};
 use plugin_trait::Plugin;
 use shared_daemon::{Daemon, Naming, Pass};
 use std::alloc::Global;
@@ -59,18 +60,23 @@ fn resume_behind<R: Wait, K: Keeper, N: Naming, P: Shelf>(
     requires nothing { HasNothing N.name.start }
     requires waits { AllWait (rows_seen N.name N.name.start) entries.now }
     requires apart { AreApart entries.now }
-    requires served { length N.name.facts.vetoes ≤ length plugins.now }
-    ensures name { KeepsName (signs_of K.tells K.faults) N.name result.0 }
+    requires served { length N.name.basis.facts.vetoes ≤ length plugins.now }
+    ensures name { KeepsName (signs_of K.tells K.doubt K.faults) N.name result.0 }
     ensures nothing { HasNothing (chronicle result.0) }
     ensures house_log { IsHouseLog result.0.house_log }
-    ensures went { WentThrough result.1 0 (TaskPlays N.name.facts N.name.opening (means_of (P.files shelf.old) (steps_at (λ p. steps p) plugins.now))) (map ToResume entries.now) (past_seen N.name.start) (past_seen (chronicle result.0)) }
+    ensures went { WentThrough result.1 0 (TaskPlays N.name.basis (means_of (P.files shelf.old) (steps_at (λ p. steps p) plugins.now))) (map ToResume entries.now) (past_seen N.name.start) (past_seen (chronicle result.0)) }
     ensures files { P.files shelf.new ≡ P.files shelf.old }
     ensures counts { P.faults shelf.old ≤ P.faults shelf.new }
     ensures told { FaultsTold (mine 0 (past_seen N.name.start)) (mine 0 (past_seen (chronicle result.0))) (P.faults shelf.old) (P.faults shelf.new) }
 {
     let mut passes = passes;
     let mut own = take_own(&mut passes);
-    let wanting = resume_all(rt, &daemon, &mut own, shelf, entries, plugins);
+    let runner = Runner {
+        rt,
+        daemon: &daemon,
+        gate: &NoGate,
+    };
+    let wanting = resume_all(&runner, &mut own, shelf, entries, plugins);
     passes.push_reserved(own);
     let house = daemon.close(passes);
     house.known();
@@ -87,12 +93,12 @@ fn resume_named<R: Wait, K: Keeper, N: Naming, P: Shelf>(
     entries: &[u32],
     plugins: &[Box<dyn Plugin>],
 ) -> (House<K>, bool)
-    requires name { IsNameOf (signs_of K.tells K.faults) N.name house }
-    requires begins { CanBegin (signs_of K.tells K.faults) house }
+    requires name { IsNameOf (signs_of K.tells K.doubt K.faults) N.name house }
+    requires begins { CanBegin (signs_of K.tells K.doubt K.faults) house }
     requires waits { AllWait (rows_at house.house_log) entries.now }
     requires apart { AreApart entries.now }
     requires served { length house.house_log.facts.vetoes ≤ length plugins.now }
-    ensures went { HouseWent (signs_of K.tells K.faults) result.1 0 (TaskPlays house.house_log.facts (rows_before house.house_log) (means_of (P.files shelf.old) (steps_at (λ p. steps p) plugins.now))) (map ToResume entries.now) house result.0 }
+    ensures went { HouseWent (signs_of K.tells K.doubt K.faults) result.1 0 (TaskPlays (basis_in house.house_log) (means_of (P.files shelf.old) (steps_at (λ p. steps p) plugins.now))) (map ToResume entries.now) house result.0 }
     ensures files { P.files shelf.new ≡ P.files shelf.old }
     ensures counts { P.faults shelf.old ≤ P.faults shelf.new }
     ensures told { FaultsTold (mine 0 (past house)) (mine 0 (past result.0)) (P.faults shelf.old) (P.faults shelf.new) }
@@ -119,12 +125,12 @@ pub(crate) fn resume_waiting<R: Wait, K: Keeper, P: Shelf>(
 ) -> (House<K>, bool)
     requires booted { 0 < boots (past house) }
     requires idle { IsIdle (past house) }
-    requires counted { IsCounted (signs_of K.tells K.faults) house }
+    requires counted { IsCounted (signs_of K.tells K.doubt K.faults) house }
     requires read { ReadLast house }
     requires waits { AllWait (rows_at house.house_log) entries.now }
     requires apart { AreApart entries.now }
     requires served { length house.house_log.facts.vetoes ≤ length plugins.now }
-    ensures went { HouseWent (signs_of K.tells K.faults) result.1 0 (TaskPlays house.house_log.facts (rows_before house.house_log) (means_of (P.files shelf.old) (steps_at (λ p. steps p) plugins.now))) (map ToResume entries.now) house result.0 }
+    ensures went { HouseWent (signs_of K.tells K.doubt K.faults) result.1 0 (TaskPlays (basis_in house.house_log) (means_of (P.files shelf.old) (steps_at (λ p. steps p) plugins.now))) (map ToResume entries.now) house result.0 }
     ensures files { P.files shelf.new ≡ P.files shelf.old }
     ensures counts { P.faults shelf.old ≤ P.faults shelf.new }
     ensures told { FaultsTold (mine 0 (past house)) (mine 0 (past result.0)) (P.faults shelf.old) (P.faults shelf.new) }

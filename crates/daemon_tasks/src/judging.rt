@@ -1,11 +1,10 @@
 //! The rows that wait for the daemon to judge them.
 ghost use Rattle.std.specs.Prelude.{◌≡◌, ◌<◌, ◌∷◌, List, [], Some};
 ghost use Rattle.history_keeper.specs.declared.row.Row.{Row};
-ghost use Rattle.update_log.specs.declared.facts.Facts.{Facts};
-ghost use Rattle.update_log.specs.Known.{row_of};
+ghost use Rattle.history_keeper.specs.Signs.{signs_of};
+ghost use Rattle.update_log.specs.Known.{Basis, row_of};
 ghost use Rattle.update_log.specs.Pasts.{boots};
 ghost use Rattle.daemon_core.specs.Housed.{past};
-ghost use Rattle.daemon_core.specs.Turns.{signs_of};
 ghost use Rattle.client_plays.specs.Endings.{IsIdle};
 ghost use Rattle.client_plays.specs.Tools.{Files, files_alone};
 ghost use Rattle.daemon_tasks.specs.Judged.{AllKnown, HouseTried, JudgeStays, JudgedAll, to_judge_in, told_by};
@@ -40,7 +39,7 @@ fn judge_next<K: Keeper>(house: &mut House<K>, entry: u32, wanting: bool) -> Opt
     requires booted { 0 < boots (past house.old) }
     requires idle { IsIdle (past house.old) }
     requires row { (row : Row) × (row_of (rows_at house.old.house_log) entry ≡ Some row) }
-    ensures more { (facts : Facts) (opening : List Row) (files : Files) → HouseTried (signs_of K.tells K.faults) facts opening (files_alone files) result wanting (to_judge_in house.old.house_log (entry ∷ [])) house.old house.new }
+    ensures more { (basis : Basis) (files : Files) → HouseTried (signs_of K.tells K.doubt K.faults) basis (files_alone files) result wanting (to_judge_in house.old.house_log (entry ∷ [])) house.old house.new }
     ensures stays { JudgeStays (entry ∷ []) house.old.house_log house.new.house_log }
 {
     house.known();
@@ -54,7 +53,7 @@ pub(crate) fn judge_all<K: Keeper>(house: &mut House<K>, entries: &[u32]) -> Wen
     requires idle { IsIdle (past house.old) }
     requires rows { AllKnown house.old.house_log entries.now }
     requires apart { AreApart entries.now }
-    ensures { (facts : Facts) (opening : List Row) (files : Files) → JudgedAll (signs_of K.tells K.faults) facts opening (files_alone files) result entries.now house.old house.new }
+    ensures { (basis : Basis) (files : Files) → JudgedAll (signs_of K.tells K.doubt K.faults) basis (files_alone files) result entries.now house.old house.new }
 {
     let mut wanting = false;
     for entry in entries {

@@ -1,9 +1,9 @@
 //! What the daemon does by itself as a boot begins.
 ghost use Rattle.std.specs.Prelude.{◌≡◌, ◌≤◌, ◌<◌, ◌||◌, length};
+ghost use Rattle.history_keeper.specs.Signs.{signs_of};
 ghost use Rattle.plugin_trait.specs.Steps.{steps_at};
 ghost use Rattle.update_log.specs.Pasts.{boots};
-ghost use Rattle.daemon_core.specs.Housed.{past, rows_before};
-ghost use Rattle.daemon_core.specs.Turns.{signs_of};
+ghost use Rattle.daemon_core.specs.Housed.{basis_in, past};
 ghost use Rattle.client_plays.specs.Endings.{HouseWent, IsCounted, IsFresh, IsIdle, ReadLast};
 ghost use Rattle.client_plays.specs.Faults.{FaultsTold};
 ghost use Rattle.client_plays.specs.Moments.{began, mine};
@@ -43,12 +43,12 @@ fn go_through<R: Wait, K: Keeper, P: Shelf>(
     requires booted { 0 < boots (past house) }
     requires idle { IsIdle (past house) }
     requires fresh { IsFresh (past house) }
-    requires counted { IsCounted (signs_of K.tells K.faults) house }
+    requires counted { IsCounted (signs_of K.tells K.doubt K.faults) house }
     requires read { ReadLast house }
     requires judged { judged.now ≡ entries_where is_to_judge house.house_log.core.rows }
     requires waiting { waiting.now ≡ entries_where is_pending house.house_log.core.rows }
     requires served { length house.house_log.facts.vetoes ≤ length plugins.now }
-    ensures went { HouseWent (signs_of K.tells K.faults) result.1 0 (TaskPlays house.house_log.facts (rows_before house.house_log) (means_of (P.files shelf.old) (steps_at (λ p. steps p) plugins.now))) (tasks house.house_log.facts (rows_before house.house_log) (began (past house))) house result.0 }
+    ensures went { HouseWent (signs_of K.tells K.doubt K.faults) result.1 0 (TaskPlays (basis_in house.house_log) (means_of (P.files shelf.old) (steps_at (λ p. steps p) plugins.now))) (tasks (basis_in house.house_log) (began (past house))) house result.0 }
     ensures files { P.files shelf.new ≡ P.files shelf.old }
     ensures counts { P.faults shelf.old ≤ P.faults shelf.new }
     ensures told { FaultsTold (mine 0 (past house)) (mine 0 (past result.0)) (P.faults shelf.old) (P.faults shelf.new) }
@@ -76,10 +76,10 @@ pub fn do_tasks<R: Wait, K: Keeper, P: Shelf>(
     requires booted { 0 < boots (past house) }
     requires idle { IsIdle (past house) }
     requires fresh { IsFresh (past house) }
-    requires counted { IsCounted (signs_of K.tells K.faults) house }
+    requires counted { IsCounted (signs_of K.tells K.doubt K.faults) house }
     requires read { ReadLast house }
     requires served { length house.house_log.facts.vetoes ≤ length plugins.now }
-    ensures went { HouseWent (signs_of K.tells K.faults) result.1 0 (TaskPlays house.house_log.facts (rows_before house.house_log) (means_of (P.files shelf.old) (steps_at (λ p. steps p) plugins.now))) (tasks house.house_log.facts (rows_before house.house_log) (began (past house))) house result.0 }
+    ensures went { HouseWent (signs_of K.tells K.doubt K.faults) result.1 0 (TaskPlays (basis_in house.house_log) (means_of (P.files shelf.old) (steps_at (λ p. steps p) plugins.now))) (tasks (basis_in house.house_log) (began (past house))) house result.0 }
     ensures files { P.files shelf.new ≡ P.files shelf.old }
     ensures counts { P.faults shelf.old ≤ P.faults shelf.new }
     ensures told { FaultsTold (mine 0 (past house)) (mine 0 (past result.0)) (P.faults shelf.old) (P.faults shelf.new) }

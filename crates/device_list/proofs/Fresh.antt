@@ -1,5 +1,5 @@
 -- The IDs of a list of devices differ, so each device may be added to those before it.
-use Rattle.std.proofs.Common.{◌≡◌, ℕ, zero, suc, ◌<◌, ◌≤◌, Bool, true, false, List, [], ◌∷◌, length, take, None, Some, refl, sym, ap, ◌∙◌, inl, inr, arith}
+use Rattle.std.proofs.Common.{◌≡◌, ℕ, zero, suc, ◌<◌, ◌≤◌, Bool, false, List, [], ◌∷◌, length, take, None, Some, refl, sym, ap, ◌∙◌, inl, inr, arith}
 use Rattle.std.specs.Prelude.{slice_get, is_some, position}
 use Rattle.std.specs.List.{AllByRecursion, IsDistinct, list_any, position_or_len}
 use Rattle.std.specs.Str.{bytes_eq}
@@ -9,7 +9,7 @@ use Rattle.std.proofs.lemmas.Map.Keys.{IsDistinct-head, IsDistinct-tail}
 use Rattle.std.proofs.lemmas.Option.{slice_get_within}
 use Rattle.fw_facts.specs.declared.view.DeviceView.{DeviceView}
 use Rattle.device_list.specs.declared.selector.Selector.TheVariants.{Id}
-use Rattle.device_list.specs.Lists.{ids_in, names, place, refused}
+use Rattle.device_list.specs.Lists.{ids_in, names, refused}
 use Rattle.device_list.proofs.GuidLaws.{bytes_eq-symm}
 
 -- an ID that differs from all others differs from that of each device

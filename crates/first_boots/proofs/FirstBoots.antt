@@ -8,7 +8,6 @@ use Rattle.std.proofs.lemmas.Option.{get_or_from_slice_get, slice_get_within}
 use Rattle.fw_facts.specs.declared.seen.Mode.{Mode}
 use Rattle.fw_facts.specs.declared.seen.Seen.{Seen}
 use Rattle.fw_facts.specs.Views.{is_home}
-use Rattle.history_keeper.specs.declared.row.Row.{Row}
 use Rattle.emulated_boards.specs.declared.image.Image.{Image}
 use Rattle.emulated_boards.specs.declared.mark.Mark.{Mark}
 use Rattle.emulated_boards.specs.Boards.{BoardState}
@@ -17,10 +16,9 @@ use Rattle.update_log.specs.declared.event.BoardSeen.{BoardSeen}
 use Rattle.update_log.specs.declared.event.Event.{Event}
 use Rattle.update_log.specs.declared.event.Found.{Found}
 use Rattle.update_log.specs.declared.facts.BootPlan.{BootPlan}
-use Rattle.update_log.specs.declared.facts.Facts.{Facts}
-use Rattle.update_log.specs.Core.{Core, Stands}
-use Rattle.update_log.specs.CoreAfter.{IsNext}
-use Rattle.update_log.specs.Known.{rows}
+use Rattle.core_state.specs.Core.{Core, Stands}
+use Rattle.update_log.specs.Legal.{IsNext}
+use Rattle.update_log.specs.Known.{Basis, rows}
 use Rattle.update_log.specs.Legal.{BoardListed, is_absent, is_gone}
 use Rattle.update_log.specs.Pasts.{past_of}
 use Rattle.update_log.specs.Shows.{HasRaw}
@@ -116,9 +114,9 @@ mode_so : (absent : Bool) (s : Seen) (raw : ℕ) → IsFirstShown s → (if abse
 mode_so true s raw fine e = cc
 mode_so false s raw fine e = first_mode s raw fine e
 
-listed_so : (facts : Facts) (opening : List Row) (plan : BootPlan) (shown : List Seen) (all : All IsFirstShown shown) (k : ℕ) (b : BoardSeen) → IsListed plan 0 k shown b
-    → BoardListed facts shown opening [] plan k b
-listed_so facts opening plan shown all k b h =
+listed_so : (basis : Basis) (plan : BootPlan) (shown : List Seen) (all : All IsFirstShown shown) (k : ℕ) (b : BoardSeen) → IsListed plan 0 k shown b
+    → BoardListed basis shown [] plan k b
+listed_so basis plan shown all k b h =
     let fine : IsFirstShown h.show = first_at shown k h.show all h.shown_is in
     let number : b.board ≡ k = (let m = h.number_is in omega (arith, m)) in
     let seen : b.seen ≡ (if is_absent plan k then Seen.Gone else h.show) = h.seen_is ∙ ap (λ n. seen_at plan n h.show) number in
@@ -132,12 +130,12 @@ listed_so facts opening plan shown all k b h =
       };
     }
 
-pub boot_next : (facts : Facts) (opening : List Row) (plan : BootPlan) (log : List Event) (shown : List Seen) (listed : List BoardSeen) → log ≡ [] → listed ≡ listed_from plan 0 shown
-    → length shown ≡ length facts.sheets → All IsFirstShown shown → IsNext facts opening (past_of log) (Event.Boot 1 plan.time plan.limit Found.Plain listed)
-boot_next facts opening plan log shown listed l b count all =
+pub boot_next : (basis : Basis) (plan : BootPlan) (log : List Event) (shown : List Seen) (listed : List BoardSeen) → log ≡ [] → listed ≡ listed_from plan 0 shown
+    → length shown ≡ length basis.facts.sheets → All IsFirstShown shown → IsNext basis (past_of log) (Event.Boot 1 plan.time plan.limit Found.Plain listed)
+boot_next basis plan log shown listed l b count all =
     rw (l, b) (
-      record { facts = facts; first = shown; plans = plan ∷ [] },
-      refl,
+      shown,
+      plan ∷ [],
       (
         tt,
         record { booted = λ h. cc; on = λ h. refl },
@@ -149,19 +147,19 @@ boot_next facts opening plan log shown listed l b count all =
             time_is = refl;
             limit_is = refl;
             count = listed_length plan 0 shown ∙ count;
-            listed = λ k b h. listed_so facts opening plan shown all k b (listed_at plan 0 k shown b h);
+            listed = λ k b h. listed_so basis plan shown all k b (listed_at plan 0 k shown b h);
             found_is = tt;
           },
         ),
       ),
     )
 
-pub boot_rows : (facts : Facts) (opening : List Row) (plan : BootPlan) (log : List Event) (listed : List BoardSeen) (core : Core) → log ≡ [] → core.log ≡ log → Stands facts opening core
-    → length (rows facts opening (Event.Boot 1 plan.time plan.limit Found.Plain listed ∷ past_of log)) ≤ length core.rows + core.row_room
-boot_rows facts opening plan log listed core l same s =
-    let kept : core.rows ≡ opening = s.rows ∙ ap (λ (xs : List Event). rows facts opening (past_of xs)) (same ∙ l) in
+pub boot_rows : (basis : Basis) (plan : BootPlan) (log : List Event) (listed : List BoardSeen) (core : Core) → log ≡ [] → core.log ≡ log → Stands basis core
+    → length (rows basis (Event.Boot 1 plan.time plan.limit Found.Plain listed ∷ past_of log)) ≤ length core.rows + core.row_room
+boot_rows basis plan log listed core l same s =
+    let kept : core.rows ≡ basis.opening = s.rows ∙ ap (λ (xs : List Event). rows basis (past_of xs)) (same ∙ l) in
     rw (l, kept) (omega arith)
 
 -- A state that stands for no event has the rows before it.
-pub rows_before : (facts : Facts) (opening : List Row) (core : Core) → core.log ≡ [] → Stands facts opening core → core.rows ≡ opening
-rows_before facts opening core none stands = stands.rows ∙ ap (λ log. rows facts opening (past_of log)) none
+pub rows_before : (basis : Basis) (core : Core) → core.log ≡ [] → Stands basis core → core.rows ≡ basis.opening
+rows_before basis core none stands = stands.rows ∙ ap (λ log. rows basis (past_of log)) none

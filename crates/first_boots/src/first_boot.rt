@@ -1,16 +1,18 @@
 //! The state after a first boot.
 ghost use Rattle.std.specs.Prelude.{◌≡◌, ◌≤◌, [], ◌∷◌, length, map, All, IfOk, OnOk};
 ghost use Rattle.history_keeper.specs.Histories.{IsHistory};
-ghost use Rattle.update_log.specs.Core.{Stands};
+ghost use Rattle.core_state.specs.Core.{Stands};
 ghost use Rattle.update_log.specs.Legal.{is_absent};
+ghost use Rattle.update_log.specs.Known.{basis_of};
 ghost use Rattle.first_boots.specs.FirstBoot.{IsAsMade, IsFirstShown, first_boot, listed_from, seen_at, shown_by};
 
+use core_state::{CoreState, step};
 use emulated_boards::Board;
 use fw_base::{Listed, NoMemory};
 use fw_facts::Seen;
 use history_keeper::Row;
 use std::alloc::Global;
-use update_log::{BoardSeen, BootPlan, CoreState, Event, Facts, Found, Told, step};
+use update_log::{BoardSeen, BootPlan, Event, Facts, Found, Told};
 
 /// The state that stands for a log of one boot by that plan, of new boards. The rows before it are a valid
 /// history.
@@ -26,7 +28,7 @@ pub fn state_at_first_boot(
     requires made { All IsAsMade boards.now }
     requires history { IsHistory rows.now }
     ensures log { IfOk result (λ state. state.log ≡ first_boot plan.now (map shown_by boards.now) ∷ []) }
-    ensures stands { IfOk result (Stands facts.now rows.now) }
+    ensures stands { IfOk result (Stands (basis_of facts.now rows.now)) }
 {
     let mut state = state_before(alloc, facts, rows)?;
     state.reserve(1)?;
@@ -40,7 +42,7 @@ pub fn state_before(alloc: Global, facts: &Facts, rows: &[Row]) -> Result<CoreSt
     requires few { length facts.now.sheets ≤ 256 }
     requires history { IsHistory rows.now }
     ensures empty { IfOk result (λ state. state.log ≡ []) }
-    ensures stands { IfOk result (Stands facts.now rows.now) }
+    ensures stands { IfOk result (Stands (basis_of facts.now rows.now)) }
 {
     let mut state = CoreState::new(alloc, facts)?;
     state.set_rows(Vec::from_slice(alloc, rows)?);
@@ -95,14 +97,14 @@ fn boot(
     plan: &BootPlan,
     shown: &[Seen],
 ) -> Result<(), NoMemory>
-    requires stands { Stands facts.now state.old.rows state.old }
+    requires stands { Stands (basis_of facts.now state.old.rows) state.old }
     requires empty { state.old.log ≡ [] }
     requires room { 1 ≤ state.old.room }
     requires few { length shown.now ≤ 256 }
     requires count { length shown.now ≡ length facts.now.sheets }
     requires made { All IsFirstShown shown.now }
     ensures log { OnOk result (state.new.log ≡ first_boot plan.now shown.now ∷ []) }
-    ensures stands { OnOk result (Stands facts.now state.old.rows state.new) }
+    ensures stands { OnOk result (Stands (basis_of facts.now state.old.rows) state.new) }
 {
     let listed = listed(alloc, plan, shown)?;
     step(

@@ -1,8 +1,8 @@
 -- An array of zeros that a text was copied into keeps the text.
-use Rattle.std.proofs.Common.{◌≡◌, ℕ, ◌-◌, ◌≤◌, List, ◌++◌, length, take, drop, Result, Ok, sym, ap, subst, ◌∙◌}
+use Rattle.std.proofs.Common.{◌≡◌, ℕ, ◌≤◌, List, ◌++◌, length, take, drop, Result, Ok, sym, ap, subst, ◌∙◌}
 use Rattle.std.proofs.Math.ListN.{replicate}
 use Rattle.std.proofs.lemmas.List.{take_at, drop-replicate}
-use Rattle.fw_base.specs.Padded.{IsPadded, Keeps, padded}
+use Rattle.fw_base.specs.Padded.{IsPadded, Keeps}
 
 module _ (width : ℕ) (kept text : List ℕ) (same : kept ≡ text) (short : length text ≤ width) where
   -- the array

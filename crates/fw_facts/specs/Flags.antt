@@ -1,5 +1,5 @@
 -- Sets of flags: for each of the ten flags, in their order, whether it is in the set.
-use Rattle.std.specs.Prelude.{ℕ, Bool, true, false, not, ◌==◌, ◌||◌, List, [], ◌∷◌, set, get_or, codes}
+use Rattle.std.specs.Prelude.{ℕ, Bool, false, not, ◌==◌, ◌||◌, List, [], ◌∷◌, set, get_or, codes}
 use Rattle.std.specs.List.{list_all}
 use Rattle.fw_facts.specs.declared.flags.DeviceFlag.{DeviceFlag}
 use Rattle.fw_facts.specs.declared.flags.DeviceFlag.TheVariants.{Internal, Updatable, RequireAc, Locked, NeedsBootloader, IsBootloader, NeedsReboot, WaitForReplug, InstallParentFirst, Emulated}

@@ -1,5 +1,5 @@
 -- That a run which nothing keeps from it does all that it is for.
-use Rattle.std.proofs.Common.{◌≡◌, ◌⊎◌, ℕ, ◌≤◌, ◌++◌, ◌+◌, true, false, List, [], length, map, refl, ap, sym, ◌∙◌, subst, inl, inr, arith}
+use Rattle.std.proofs.Common.{◌≡◌, ◌⊎◌, ℕ, ◌≤◌, ◌++◌, ◌+◌, true, false, List, [], length, refl, ap, sym, ◌∙◌, subst, inl, inr, arith}
 use Rattle.std.proofs.lemmas.List.{append-nil, length-append}
 use Rattle.std.proofs.lemmas.Option.{same_Some}
 use Rattle.std.specs.Prelude.{◌-◌, ◌^◌, Option, Some, None}
@@ -7,6 +7,7 @@ use Rattle.fw_facts.specs.declared.machine.MachineFacts.{MachineFacts}
 use Rattle.history_keeper.proofs.Prefixes.{history_front, history_none}
 use Rattle.history_keeper.specs.declared.row.Row.{Row}
 use Rattle.history_keeper.specs.Histories.{IsHistory}
+use Rattle.history_keeper.specs.Signs.{KeeperSigns}
 use Rattle.outer_traits.specs.Sources.{AtEnd, Came}
 use Rattle.plugin_order.specs.Arranged.{CanBeArranged, HasCause}
 use Rattle.plugin_order.specs.declared.arrangement.OrderFault.{OrderFault}
@@ -15,11 +16,10 @@ use Rattle.plugin_order.specs.declared.sheet.PluginSheet.{PluginSheet}
 use Rattle.update_log.specs.declared.event.Event.{Event}
 use Rattle.update_log.specs.declared.facts.PluginVetoes.{PluginVetoes}
 use Rattle.update_log.specs.Pasts.{past_of}
-use Rattle.daemon_core.specs.House.{shown_by}
+use Rattle.update_log.specs.Known.{basis_of}
 use Rattle.daemon_core.specs.Keeping.{keeper_faults}
 use Rattle.client_plays.specs.Shelves.{means_for}
 use Rattle.client_plays.specs.Tools.{ShelfTold}
-use Rattle.client_threads.specs.Planned.{with_plans}
 use Rattle.site_types.specs.declared.campaign.Campaign.{Campaign}
 use Rattle.site_types.specs.declared.site.Site.{Site}
 use Rattle.site_making.specs.Made.{made_site}
@@ -33,14 +33,14 @@ use Rattle.command_outputs.specs.Summed.{summary}
 use Rattle.report_text.specs.Report.{report}
 use Rattle.run_status.specs.declared.status.Status.{Status}
 use Rattle.run_status.specs.declared.status.Status.TheVariants as statuses
-use Rattle.fwupd_service.specs.Campaigns.{IsBadHistory, IsOpening}
+use Rattle.fwupd_service.specs.Campaigns.{IsBadHistory, IsOpening, campaign_over}
 use Rattle.fwupd_service.specs.Complete.{HistoryHeld, InputGave, RunDone, SiteWentWhole, WorkDone}
 use Rattle.fwupd_service.specs.Ends.{CampaignEnds}
 use Rattle.fwupd_service.specs.Makes.{BlamesNoHistory, MadeOrNothing, MakeBegan, MakeEnds, order_status, own_shelves, own_signs}
 use Rattle.fwupd_service.specs.Plugged.{AreStarted, Plugins, work_of}
 use Rattle.fwupd_service.specs.Telling.{any_fault}
 use Rattle.fwupd_service.specs.Tops.{CampaignTold, CampaignWent, Left, RunEnds, stop_status}
-use Rattle.fwupd_service.specs.Worlds.{KeeperSigns, World, setting_in}
+use Rattle.fwupd_service.specs.Worlds.{World, setting_in}
 use Rattle.fwupd_service.proofs.FaultsTold.{counted-none, no-fault-told}
 
 -- ---- what came of the input
@@ -102,14 +102,14 @@ module _ {K Q : Type 0} (signs : KeeperSigns K) (plugins : Plugins Q) where
   -- What a campaign came to that was played.
   ended : (shelves : List ShelfTold) (started : List Q) (site : Site) (campaign : Campaign) (left : Left K) (text : Campaign → List ℕ) (before after : Option (List ℕ)) (status : Status)
       → AreStarted plugins.words plugins.sheets campaign.facts started → IsCampaignOf site plugins.sheets (plugins.vetoes site.machine) campaign → IsHistory left.opening → any_fault left.log ≡ false
-      → CampaignEnds signs.tells (means_for (work_of plugins.words started) shelves) status (with_plans campaign.facts (map shown_by campaign.boards.items) campaign.boots) left.opening campaign.scripts left.log left.keeper (text campaign) before after
+      → CampaignEnds signs.tells (means_for (work_of plugins.words started) shelves) status (campaign_over campaign left.opening) campaign.scripts left.log left.keeper (text campaign) before after
       → RunDone signs.tells left.keeper (SiteWentWhole shelves plugins site left text before after) status
   ended shelves started site campaign left text before after statuses.Done a s valid quiet e = record { campaign = campaign; settled = s; started = started; started_are = a; whole = e.1 }
   ended shelves started site campaign left text before after statuses.KeeperFault a s valid quiet e =
       let bad : true ≡ false = sym e.0 ∙ quiet in cc
   ended shelves started site campaign left text before after (statuses.BadHistory entry) a s valid quiet e = bad e.bad
     where
-      bad : IsBadHistory signs.tells entry campaign.facts left.opening left.log left.keeper → (all : List Row) → signs.tells left.keeper all → ⊥
+      bad : IsBadHistory signs.tells entry (basis_of campaign.facts left.opening) left.log left.keeper → (all : List Row) → signs.tells left.keeper all → ⊥
       bad (inl (all, b)) = absurd (b.faulty.breaks (history_front left.opening (b.at + 1) valid))
       bad (inr (v, silent, others)) = silent
   ended shelves started site campaign left text before after statuses.SinkFault a s valid quiet e = tt
@@ -120,17 +120,17 @@ module _ {K Q : Type 0} (signs : KeeperSigns K) (plugins : Plugins Q) where
       → RunEnds signs plugins status keeper left before after
       → CanBeArranged plugins.sheets → HistoryHeld signs keeper left
       → InputGave (limits.Shelves (length before.shelves)) status before.unread after.unread
-      (λ site. RunDone signs.tells left.keeper (SiteWentWhole before.shelves plugins site left (λ campaign. report campaign.facts left.opening left.log) before.written after.written) status)
+      (λ site. RunDone signs.tells left.keeper (SiteWentWhole before.shelves plugins site left (λ campaign. report (basis_of campaign.facts left.opening) left.log) before.written after.written) status)
   run-complete status keeper left before after ends can held = at ends
     where
       Done : Status → Site → Type 0
-      Done s site = RunDone signs.tells left.keeper (SiteWentWhole before.shelves plugins site left (λ campaign. report campaign.facts left.opening left.log) before.written after.written) s
+      Done s site = RunDone signs.tells left.keeper (SiteWentWhole before.shelves plugins site left (λ campaign. report (basis_of campaign.facts left.opening) left.log) before.written after.written) s
 
       Gave : Status → Type 0
       Gave s = InputGave (limits.Shelves (length before.shelves)) s before.unread after.unread (Done s)
 
       Told : List Q → Campaign → Type 0
-      Told started campaign = CampaignTold signs (work_of plugins.words started) status campaign keeper left (report campaign.facts left.opening left.log) (setting_in before) (setting_in after)
+      Told started campaign = CampaignTold signs (work_of plugins.words started) status campaign keeper left (report (basis_of campaign.facts left.opening) left.log) (setting_in before) (setting_in after)
 
       valid : (started : List Q) (campaign : Campaign) → Told started campaign → IsHistory left.opening
       valid started campaign w = valid-opening (signs.tells keeper) (signs.tells left.keeper) left.opening left.log held.valid w.keeper_stands.opening_is
@@ -140,9 +140,9 @@ module _ {K Q : Type 0} (signs : KeeperSigns K) (plugins : Plugins Q) where
           no-fault-told left.log
           (counted-none (2 ^ 64 - 1) (keeper_faults (past_of left.log)) (signs.faults keeper) (signs.faults left.keeper) w.keeper_stands.counted held.no_fault held.counting)
 
-      went : (started : List Q) (campaign : Campaign) (site : Site) → AreStarted plugins.words plugins.sheets campaign.facts started → IsCampaignOf site plugins.sheets (plugins.vetoes site.machine) campaign → CampaignWent signs (work_of plugins.words started) status campaign keeper left (report campaign.facts left.opening left.log) (setting_in before) (setting_in after) → Done status site
+      went : (started : List Q) (campaign : Campaign) (site : Site) → AreStarted plugins.words plugins.sheets campaign.facts started → IsCampaignOf site plugins.sheets (plugins.vetoes site.machine) campaign → CampaignWent signs (work_of plugins.words started) status campaign keeper left (report (basis_of campaign.facts left.opening) left.log) (setting_in before) (setting_in after) → Done status site
       went started campaign site a settled (inl w) =
-          ended before.shelves started site campaign left (λ c. report c.facts left.opening left.log) before.written after.written status a settled (valid started campaign w) (quiet started campaign w) w.ends
+          ended before.shelves started site campaign left (λ c. report (basis_of c.facts left.opening) left.log) before.written after.written status a settled (valid started campaign w) (quiet started campaign w) w.ends
       went started campaign site a settled (inr (e, nothing)) = subst (λ (s : Status). Done s site) (sym e) tt
 
       at : RunEnds signs plugins status keeper left before after → Gave status
@@ -163,7 +163,7 @@ fault-status sheets Complete faults.NoMemory can h = tt
 module _ {K Q : Type 0} (boards clients : ℕ) (plugins : Plugins Q) where
   -- A generated campaign that was played came to no more than that.
   summed : (status : Status) (started : List Q) (campaign : Campaign) (left : Left K) (own : List Row) (before after : Option (List ℕ)) → AreStarted plugins.words plugins.sheets campaign.facts started → IsCampaignOf (made_site boards clients) plugins.sheets (plugins.vetoes (made_site boards clients).machine) campaign → BlamesNoHistory status
-      → CampaignEnds own_signs.tells (means_for (work_of plugins.words started) (own_shelves clients)) status (with_plans campaign.facts (map shown_by campaign.boards.items) campaign.boots) left.opening campaign.scripts left.log own (summary boards clients left.log) before after
+      → CampaignEnds own_signs.tells (means_for (work_of plugins.words started) (own_shelves clients)) status (campaign_over campaign left.opening) campaign.scripts left.log own (summary boards clients left.log) before after
       → WorkDone (SiteWentWhole (own_shelves clients) plugins (made_site boards clients) left (λ _. summary boards clients left.log) before after) status
   summed statuses.Done started campaign left own before after a s n e = record { campaign = campaign; settled = s; started = started; started_are = a; whole = e.1 }
   summed statuses.KeeperFault started campaign left own before after a s n e = absurd n

@@ -7,9 +7,10 @@ use Rattle.fw_facts.specs.declared.view.DeviceView.{DeviceView}
 use Rattle.history_keeper.specs.declared.refusal.KeeperRefusal.{KeeperRefusal}
 use Rattle.history_keeper.specs.declared.row.Row.{Row}
 use Rattle.history_keeper.specs.Keepers.{StillTold}
+use Rattle.history_keeper.specs.Signs.{KeeperSigns}
 use Rattle.update_log.specs.declared.event.Event.{Event}
 use Rattle.update_log.specs.declared.facts.BootPlan.{BootPlan}
-use Rattle.update_log.specs.Known.{views}
+use Rattle.update_log.specs.Known.{basis_of, views}
 use Rattle.update_log.specs.Pasts.{past_of}
 use Rattle.daemon_core.specs.House.{shown_by}
 use Rattle.daemon_core.specs.Reading.{AreTold}
@@ -30,7 +31,6 @@ use Rattle.fwupd_service.specs.Begins.{CanBePlayed, IsReadyFor}
 use Rattle.fwupd_service.specs.Loads.{IsJudged, LoadSays, WasLoaded}
 use Rattle.fwupd_service.specs.Tops.{Left}
 use Rattle.fwupd_service.specs.Updates.{OnlyLoaded, planned_items, printed_plan}
-use Rattle.fwupd_service.specs.Worlds.{KeeperSigns}
 
 -- Rows that were loaded are those that the keeper told before, if it tells any still.
 pub rows_told : (before after : List Row → Type 0) (loaded : List Row) → StillTold before after → ((all : List Row) → after all → loaded ≡ all) → AreTold before after loaded
@@ -68,10 +68,10 @@ pub plan-text : (campaign : Campaign) (rows : List Row) (tag : List ℕ) (first 
     → seen ≡ first.state.views → steps ≡ first.plan.steps → plan_text campaign.facts seen steps ≡ printed_plan campaign rows tag
 plan-text campaign rows tag first seen steps p v s =
     let shown = map shown_by campaign.boards.items in
-    let shows : seen ≡ views campaign.facts rows (first_log campaign.boots shown) =
-    v ∙ p.stands.views ∙ ap (λ (log : List Event). views campaign.facts rows (past_of log)) p.log ∙ ap (λ (past : List Event). views campaign.facts rows past) (past_of_first campaign.boots shown) in
+    let shows : seen ≡ views (basis_of campaign.facts rows) (first_log campaign.boots shown) =
+    v ∙ p.stands.views ∙ ap (λ (log : List Event). views (basis_of campaign.facts rows) (past_of log)) p.log ∙ ap (λ (past : List Event). views (basis_of campaign.facts rows) past) (past_of_first campaign.boots shown) in
     ap (λ (x : List DeviceView). plan_text campaign.facts x steps) shows
-    ∙ ap (λ (x : List PlanStep). plan_text campaign.facts (views campaign.facts rows (first_log campaign.boots shown)) x) (s ∙ p.steps_are)
+    ∙ ap (λ (x : List PlanStep). plan_text campaign.facts (views (basis_of campaign.facts rows) (first_log campaign.boots shown)) x) (s ∙ p.steps_are)
 
 -- Installs may stand in a script.
 installs-may : (s : Scene) (number : ℕ) (steps : List PlanStep) → All IsScriptItem (installs_from s number steps)
@@ -115,7 +115,7 @@ plan-can-be-played s number steps old new p can = record {
 
 pub planned-can-be-played : (campaign : Campaign) (rows : List Row) (tag : List ℕ) (made : Campaign) → Plays (planned_items campaign rows tag) campaign made → CanBePlayed campaign → CanBePlayed made
 planned-can-be-played campaign rows tag made =
-    plan-can-be-played (scene campaign.facts rows 1 tag) 1 (first_steps campaign.facts (map shown_by campaign.boards.items) campaign.boots rows tag) campaign made
+    plan-can-be-played (scene (basis_of campaign.facts rows) 1 tag) 1 (first_steps campaign.facts (map shown_by campaign.boards.items) campaign.boots rows tag) campaign made
 
 pub plan-is-ready : (shelves plugins : ℕ) (items : List Item) (old new : Campaign) → Plays items old new → IsReadyFor shelves plugins old → IsReadyFor shelves plugins new
 plan-is-ready shelves plugins items old new p ready = record {

@@ -1,23 +1,23 @@
 -- That `plan` and `update` do all that they are for where nothing keeps them from it.
-use Rattle.std.proofs.Common.{◌≡◌, ◌⊎◌, ℕ, ◌<◌, ◌≤◌, ◌+◌, List, length, map, sym, ◌∙◌, subst, inl, inr, arith}
+use Rattle.std.proofs.Common.{◌≡◌, ◌⊎◌, ℕ, ◌<◌, ◌≤◌, ◌+◌, List, length, sym, ◌∙◌, subst, inl, inr, arith}
 use Rattle.std.specs.Prelude.{◌-◌, ◌^◌, true, false, min, Option, Some}
 use Rattle.fw_facts.specs.declared.machine.MachineFacts.{MachineFacts}
 use Rattle.history_keeper.proofs.Prefixes.{history_front}
 use Rattle.history_keeper.specs.declared.row.Row.{Row}
 use Rattle.history_keeper.specs.Histories.{IsHistory}
 use Rattle.history_keeper.specs.Keepers.{StillTold}
+use Rattle.history_keeper.specs.Signs.{KeeperSigns}
 use Rattle.plugin_order.specs.Arranged.{CanBeArranged}
 use Rattle.plugin_order.specs.declared.sheet.PluginSheet.{PluginSheet}
 use Rattle.update_log.specs.declared.event.Event.{Event}
 use Rattle.update_log.specs.declared.facts.PluginVetoes.{PluginVetoes}
 use Rattle.update_log.specs.Pasts.{past_of}
+use Rattle.update_log.specs.Known.{basis_of}
 use Rattle.daemon_core.specs.Boots.{BreaksAt}
-use Rattle.daemon_core.specs.House.{shown_by}
 use Rattle.daemon_core.specs.Keeping.{keeper_faults}
 use Rattle.daemon_core.specs.Reading.{AreTold}
 use Rattle.client_plays.specs.Shelves.{means_for}
 use Rattle.client_plays.specs.Tools.{ShelfTold}
-use Rattle.client_threads.specs.Planned.{with_plans}
 use Rattle.site_types.specs.declared.campaign.Campaign.{Campaign}
 use Rattle.site_types.specs.declared.site.Site.{Site}
 use Rattle.campaign_inputs.specs.Settled.{IsCampaignOf}
@@ -28,7 +28,7 @@ use Rattle.run_status.specs.declared.status.Status.{Status}
 use Rattle.run_status.specs.declared.status.Status.TheVariants as statuses
 use Rattle.fwupd_service.specs.declared.loading.LoadStop.{LoadStop}
 use Rattle.fwupd_service.specs.declared.loading.LoadStop.TheVariants as loads
-use Rattle.fwupd_service.specs.Campaigns.{IsBadHistory, IsOpening}
+use Rattle.fwupd_service.specs.Campaigns.{IsBadHistory, IsOpening, campaign_over}
 use Rattle.fwupd_service.specs.Complete.{HistoryHeld, InputGave, RunDone, SitePlanned, SiteUpdated, WorkDone}
 use Rattle.fwupd_service.specs.Ends.{CampaignEnds}
 use Rattle.fwupd_service.specs.Plugged.{AreStarted, Plugins, work_of}
@@ -36,7 +36,7 @@ use Rattle.fwupd_service.specs.Loads.{WasLoaded, load_status}
 use Rattle.fwupd_service.specs.Telling.{any_fault}
 use Rattle.fwupd_service.specs.Tops.{CampaignTold, CampaignWent, Left, stop_status}
 use Rattle.fwupd_service.specs.Updates.{PlanEnds, PlanGoes, PlanPlayed, UpdateEnds, UpdateGoes, WasPrinted, planned_items, printed_plan}
-use Rattle.fwupd_service.specs.Worlds.{KeeperSigns, World, setting_in}
+use Rattle.fwupd_service.specs.Worlds.{World, setting_in}
 use Rattle.fwupd_service.proofs.Completing.{none-gave, site-gave, valid-opening}
 use Rattle.fwupd_service.proofs.FaultsTold.{counted-none, no-fault-told}
 
@@ -114,7 +114,7 @@ module _ {K Q : Type 0} (signs : KeeperSigns K) (plugins : Plugins Q) where
   update-ended : (shelves : List ShelfTold) (started : List Q) (tag : List ℕ) (site : Site) (campaign made : Campaign) (rows : List Row) (keeper : K) (left : Left K) (before after : Option (List ℕ)) (status : Status)
       → AreStarted plugins.words plugins.sheets campaign.facts started → IsCampaignOf site plugins.sheets (plugins.vetoes site.machine) campaign → AreTold (signs.tells keeper) (signs.tells left.keeper) rows → Plays (planned_items campaign rows tag) campaign made
       → IsHistory left.opening → any_fault left.log ≡ false
-      → CampaignEnds signs.tells (means_for (work_of plugins.words started) shelves) status (with_plans made.facts (map shown_by made.boards.items) made.boots) left.opening made.scripts left.log left.keeper (report made.facts left.opening left.log) before after
+      → CampaignEnds signs.tells (means_for (work_of plugins.words started) shelves) status (campaign_over made left.opening) made.scripts left.log left.keeper (report (basis_of made.facts left.opening) left.log) before after
       → RunDone signs.tells left.keeper (SiteUpdated signs.tells shelves plugins tag site keeper left before after) status
   update-ended shelves started tag site campaign made rows keeper left before after statuses.Done a s t p valid quiet e =
       record { campaign = campaign; settled = s; started = started; started_are = a; rows = rows; told_are = t; made = made; plays = p; whole = e.1 }
@@ -122,7 +122,7 @@ module _ {K Q : Type 0} (signs : KeeperSigns K) (plugins : Plugins Q) where
       let bad : true ≡ false = sym e.0 ∙ quiet in cc
   update-ended shelves started tag site campaign made rows keeper left before after (statuses.BadHistory entry) a s t p valid quiet e = bad e.bad
     where
-      bad : IsBadHistory signs.tells entry made.facts left.opening left.log left.keeper → (all : List Row) → signs.tells left.keeper all → ⊥
+      bad : IsBadHistory signs.tells entry (basis_of made.facts left.opening) left.log left.keeper → (all : List Row) → signs.tells left.keeper all → ⊥
       bad (inl (all, b)) = absurd (b.faulty.breaks (history_front left.opening (b.at + 1) valid))
       bad (inr (v, silent, others)) = silent
   update-ended shelves started tag site campaign made rows keeper left before after statuses.SinkFault a s t p valid quiet e = tt
@@ -147,7 +147,7 @@ module _ {K Q : Type 0} (signs : KeeperSigns K) (plugins : Plugins Q) where
       quiet-middle middle up on = let same = held.no_fault in omega (arith, up, on, same)
 
       Told : List Q → Campaign → K → Type 0
-      Told started made middle = CampaignTold signs (work_of plugins.words started) status made middle left (report made.facts left.opening left.log) (setting_in before) (setting_in after)
+      Told started made middle = CampaignTold signs (work_of plugins.words started) status made middle left (report (basis_of made.facts left.opening) left.log) (setting_in before) (setting_in after)
 
       valid : (started : List Q) (made : Campaign) (middle : K) → StillTold (signs.tells keeper) (signs.tells middle) → Told started made middle → IsHistory left.opening
       valid started made middle still w =
@@ -166,7 +166,7 @@ module _ {K Q : Type 0} (signs : KeeperSigns K) (plugins : Plugins Q) where
       played : (started : List Q) (campaign : Campaign) (site : Site) → AreStarted plugins.words plugins.sheets campaign.facts started → IsCampaignOf site plugins.sheets (plugins.vetoes site.machine) campaign → PlanPlayed signs (work_of plugins.words started) tag campaign status keeper left (setting_in before) (setting_in after) → Done status site
       played started campaign site a settled p = of p.went
         where
-          of : CampaignWent signs (work_of plugins.words started) status p.made p.middle left (report p.made.facts left.opening left.log) (setting_in before) (setting_in after) → Done status site
+          of : CampaignWent signs (work_of plugins.words started) status p.made p.middle left (report (basis_of p.made.facts left.opening) left.log) (setting_in before) (setting_in after) → Done status site
           of (inl w) =
               update-ended before.shelves started tag site campaign p.made p.rows keeper left before.written after.written status a settled (planned started p.made p.middle p.rows p.loaded.says.0 w) p.plays
               (valid started p.made p.middle p.loaded.told_stay w) (quiet started p.made p.middle p.loaded.counts w) w.ends

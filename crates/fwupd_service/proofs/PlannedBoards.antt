@@ -4,11 +4,10 @@ use Rattle.std.proofs.lemmas.List.{length-map}
 use Rattle.std.specs.Prelude.{Option, Some, None, slice_get, unwrap_or}
 use Rattle.emulated_boards.specs.Boards.{BoardState}
 use Rattle.emulated_boards.specs.declared.fault.PlannedFault.{PlannedFault}
+use Rattle.history_keeper.specs.Signs.{KeeperSigns}
 use Rattle.daemon_core.specs.House.{IsHouse, place_of}
 use Rattle.daemon_core.specs.Housed.{Housed, Place}
 use Rattle.daemon_core.specs.Parts.{BoardsOf}
-use Rattle.history_keeper.specs.declared.change.Change.{Change}
-use Rattle.history_keeper.specs.declared.row.Row.{Row}
 use Rattle.update_log.specs.declared.facts.Facts.{Facts}
 use Rattle.daemon_core.specs.Planned.{HavePlans, KeepsPlans, plan_of, plans_in}
 use Rattle.daemon_core.proofs.Planned.{plans-picked}
@@ -38,8 +37,8 @@ abbrev place-by : Option Place → Place
 place-by o = unwrap_or o (record { board = None; told = 0 })
 
 -- Those of a house that kept its plans.
-pub boards-planned : {K : Type 0} (told : K → List Row → Type 0) (doubted : K → Option Change) (old new : Housed K) (boards : List BoardState) → IsHouse told doubted old → new.house_log.facts ≡ old.house_log.facts → KeepsPlans old.places new.places → BoardsOf new boards → map (λ (b : BoardState). b.plan) boards ≡ plans_in old.places
-boards-planned told doubted old new boards k f keeps of =
+pub boards-planned : {K : Type 0} (signs : KeeperSigns K) (old new : Housed K) (boards : List BoardState) → IsHouse signs old → new.house_log.facts ≡ old.house_log.facts → KeepsPlans old.places new.places → BoardsOf new boards → map (λ (b : BoardState). b.plan) boards ≡ plans_in old.places
+boards-planned signs old new boards k f keeps of =
     plans-each boards (plans_in old.places) (of.count ∙ ap (λ (x : Facts). length x.sheets) f ∙ sym k.count ∙ sym (length-map old.places (λ (place : Place). plan_of place.board)))
     (λ n b e.
     let i = of.each n b e in

@@ -3,13 +3,12 @@ use Rattle.std.proofs.Common.{◌≡◌, ℕ, List, [], ◌∷◌, map, Option, 
 use Rattle.std.specs.Prelude.{Result, Ok, Err, IfOk, IfErr, IsSome}
 use Rattle.emulated_boards.specs.Boards.{BoardState}
 use Rattle.history_keeper.specs.declared.row.Row.{Row}
+use Rattle.history_keeper.specs.Signs.{KeeperSigns}
 use Rattle.update_log.specs.declared.event.Event.{Event}
-use Rattle.daemon_core.specs.House.{shown_by}
 use Rattle.client_plays.specs.Shelves.{means_for}
 use Rattle.plugin_trait.specs.Steps.{PluginSteps}
 use Rattle.client_plays.specs.Tools.{ShelfTold, ShelvesStay}
 use Rattle.client_threads.specs.declared.ending.Ran.{Ran}
-use Rattle.client_threads.specs.Planned.{with_plans}
 use Rattle.site_types.specs.declared.campaign.Campaign.{Campaign}
 use Rattle.command_words.specs.declared.command.Command.{Command}
 use Rattle.command_words.specs.declared.command.Command.TheVariants as commands
@@ -18,13 +17,13 @@ use Rattle.command_words.specs.Commands.{Reads}
 use Rattle.run_status.specs.declared.status.Status.{Status}
 use Rattle.run_status.specs.declared.status.Status.TheVariants as statuses
 use Rattle.report_queue.specs.Stops.{Told}
-use Rattle.fwupd_service.specs.Campaigns.{ShelvesStand, WasPlayed}
+use Rattle.fwupd_service.specs.Campaigns.{ShelvesStand, WasPlayed, campaign_over}
 use Rattle.fwupd_service.specs.Commands.{KeepsShelves, NothingDone, WordsEnd}
 use Rattle.fwupd_service.specs.Plugged.{Plugins}
 use Rattle.fwupd_service.specs.Ends.{IsReported}
 use Rattle.fwupd_service.specs.Reported.{FaultTold, KeeperFaults, KeepsMarks, MarksTold}
 use Rattle.fwupd_service.specs.Tops.{CampaignTold, Left}
-use Rattle.fwupd_service.specs.Worlds.{KeeperSigns, Setting, World}
+use Rattle.fwupd_service.specs.Worlds.{Setting, World}
 use Rattle.fwupd_service.proofs.EndLaws.{campaign-ends}
 
 -- What holds of a result that is `Ok`, or `Err`.
@@ -74,7 +73,7 @@ stay-same [] = tt
 stay-same (shelf ∷ shelves) = (record { files = refl; counts = omega arith }, stay-same shelves)
 
 module _ {K : Type 0} (signs : KeeperSigns K) (work : ℕ → PluginSteps) (ran : Ran) (campaign : Campaign) (opening : List Row) (log : List Event) (boards : List BoardState) (old new : K) (text : List ℕ) (before after : Setting) where
-  pub campaign-told : (status : Status) → ShelvesStand log before.shelves after.shelves → map (λ (b : BoardState). b.plan) boards ≡ map (λ (b : BoardState). b.plan) campaign.boards.items → WasPlayed signs (means_for work before.shelves) ran (with_plans campaign.facts (map shown_by campaign.boards.items) campaign.boots) campaign.scripts opening log boards old new
+  pub campaign-told : (status : Status) → ShelvesStand log before.shelves after.shelves → map (λ (b : BoardState). b.plan) boards ≡ map (λ (b : BoardState). b.plan) campaign.boards.items → WasPlayed signs (means_for work before.shelves) ran (campaign_over campaign opening) campaign.scripts log boards old new
       → IsReported status ran.ending ran.wanting log text before.written after.written
       → CampaignTold signs work status campaign old (record { log = log; opening = opening; boards = Some boards; keeper = new }) text before after
   campaign-told status s plans p r = record {
@@ -84,5 +83,5 @@ module _ {K : Type 0} (signs : KeeperSigns K) (work : ℕ → PluginSteps) (ran 
     board_plans = plans;
     keeper_stands = p.keeper;
     shelves_stand = s;
-    ends = campaign-ends signs (means_for work before.shelves) (with_plans campaign.facts (map shown_by campaign.boards.items) campaign.boots) campaign.scripts opening log boards old new text before.written after.written status ran p r;
+    ends = campaign-ends signs (means_for work before.shelves) (campaign_over campaign opening) campaign.scripts log boards old new text before.written after.written status ran p r;
   }

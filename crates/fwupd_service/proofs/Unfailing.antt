@@ -1,23 +1,21 @@
 -- That the campaign of `make` meets no fault of a keeper: its own counts none, and begins without rows.
-use Rattle.std.proofs.Common.{◌≡◌, ℕ, ◌<◌, true, false, List, [], length, map, Option, refl, sym, ap, ◌∙◌, inl, inr, arith, lit<}
+use Rattle.std.proofs.Common.{◌≡◌, ℕ, ◌<◌, true, false, List, [], length, Option, refl, sym, ap, ◌∙◌, inl, inr, arith, lit<}
 use Rattle.std.specs.Prelude.{◌-◌, ◌^◌}
 use Rattle.history_keeper.specs.declared.row.Row.{Row}
 use Rattle.update_log.specs.declared.event.Event.{Event}
 use Rattle.update_log.specs.Pasts.{past_of}
 use Rattle.update_log.specs.Shows.{Campaign}
 use Rattle.daemon_core.specs.Boots.{BreaksAt}
-use Rattle.daemon_core.specs.House.{shown_by}
 use Rattle.daemon_core.specs.Keeping.{keeper_faults}
 use Rattle.client_scripts.specs.declared.item.Item.{Item}
 use Rattle.client_plays.specs.Shelves.{means_for}
 use Rattle.plugin_trait.specs.Steps.{PluginSteps}
 use Rattle.client_plays.specs.Tools.{Means, ShelfTold}
-use Rattle.client_threads.specs.Planned.{with_plans}
 use Rattle.site_types.specs.declared.campaign.Campaign as sites
 use Rattle.command_outputs.specs.Summed.{summary}
 use Rattle.run_status.specs.declared.status.Status.{Status}
 use Rattle.run_status.specs.declared.status.Status.TheVariants as statuses
-use Rattle.fwupd_service.specs.Campaigns.{IsBadHistory, IsOpening}
+use Rattle.fwupd_service.specs.Campaigns.{IsBadHistory, IsOpening, campaign_over}
 use Rattle.fwupd_service.specs.Ends.{CampaignEnds}
 use Rattle.fwupd_service.specs.Makes.{BlamesNoHistory, MadeWent, own_shelves, own_signs}
 use Rattle.fwupd_service.specs.Telling.{any_fault}
@@ -40,15 +38,15 @@ none-breaks entry opening e b =
 -- ---- so its status blames no history
 
 -- Over a keeper that tells its rows, with no rows before the log, no boot read a bad history.
-none-bad : {K : Type 0} (told : K → List Row → Type 0) (keeper : K) (all : List Row) (entry : ℕ) (c : Campaign) (opening : List Row) (log : List Event) → told keeper all → opening ≡ [] → IsBadHistory told entry c.facts opening log keeper → ⊥
-none-bad told keeper all entry c opening log t o (inl (faults, b)) = none-breaks entry opening o b
-none-bad told keeper all entry c opening log t o (inr (valid, silent, others)) = absurd (silent all t)
+none-bad : {K : Type 0} (told : K → List Row → Type 0) (keeper : K) (all : List Row) (entry : ℕ) (c : Campaign) (log : List Event) → told keeper all → c.basis.opening ≡ [] → IsBadHistory told entry c.basis log keeper → ⊥
+none-bad told keeper all entry c log t o (inl (faults, b)) = none-breaks entry c.basis.opening o b
+none-bad told keeper all entry c log t o (inr (valid, silent, others)) = absurd (silent all t)
 
-no-blame : {K : Type 0} (told : K → List Row → Type 0) (keeper : K) (all : List Row) (means : ℕ → Means) (status : Status) (c : Campaign) (opening : List Row) (scripts : List (List (List Item))) (log : List Event) (text : List ℕ) (before after : Option (List ℕ))
-    → told keeper all → opening ≡ [] → any_fault log ≡ false → CampaignEnds told means status c opening scripts log keeper text before after → BlamesNoHistory status
-no-blame told keeper all means statuses.KeeperFault c opening scripts log text before after t o f e = let bad : true ≡ false = sym e.0 ∙ f in cc
-no-blame told keeper all means (statuses.BadHistory entry) c opening scripts log text before after t o f e = none-bad told keeper all entry c opening log t o e.bad
-no-blame told keeper all means _ c opening scripts log text before after t o f e = tt
+no-blame : {K : Type 0} (told : K → List Row → Type 0) (keeper : K) (all : List Row) (means : ℕ → Means) (status : Status) (c : Campaign) (scripts : List (List (List Item))) (log : List Event) (text : List ℕ) (before after : Option (List ℕ))
+    → told keeper all → c.basis.opening ≡ [] → any_fault log ≡ false → CampaignEnds told means status c scripts log keeper text before after → BlamesNoHistory status
+no-blame told keeper all means statuses.KeeperFault c scripts log text before after t o f e = let bad : true ≡ false = sym e.0 ∙ f in cc
+no-blame told keeper all means (statuses.BadHistory entry) c scripts log text before after t o f e = none-bad told keeper all entry c log t o e.bad
+no-blame told keeper all means _ c scripts log text before after t o f e = tt
 
 -- ---- the generated campaign
 
@@ -58,7 +56,7 @@ pub made-went : {K : Type 0} (boards clients : ℕ) (work : ℕ → PluginSteps)
     (record { shelves = own_shelves clients; written = before }) (record { shelves = kept; written = after })
     → MadeWent boards clients work status campaign keeper left before after
 made-went boards clients work status campaign keeper left own kept before after k told =
-    let c = with_plans campaign.facts (map shown_by campaign.boards.items) campaign.boots in
+    let c = campaign_over campaign left.opening in
     let stands = told.keeper_stands in
     let no_rows : left.opening ≡ [] = none-opened own left.opening left.log stands.opening_is in
     let no_fault : any_fault left.log ≡ false = no-fault-told left.log (counted-none (2 ^ 64 - 1) (keeper_faults (past_of left.log)) 0 0 stands.counted refl (lit< tt)) in
@@ -69,6 +67,6 @@ made-went boards clients work status campaign keeper left own kept before after 
       no_rows = no_rows;
       no_fault = no_fault;
       no_blame =
-          no-blame own_signs.tells own own (means_for work (own_shelves clients)) status c left.opening campaign.scripts left.log (summary boards clients left.log) before after refl no_rows no_fault told.ends;
+          no-blame own_signs.tells own own (means_for work (own_shelves clients)) status c campaign.scripts left.log (summary boards clients left.log) before after refl no_rows no_fault told.ends;
       told = told;
     }

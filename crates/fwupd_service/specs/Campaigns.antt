@@ -5,16 +5,16 @@ use Rattle.outer_traits.specs.Faults.{RoseBy}
 use Rattle.history_keeper.specs.declared.row.Row.{Row}
 use Rattle.history_keeper.specs.Histories.{IsHistory}
 use Rattle.history_keeper.specs.Keepers.{StillTold}
+use Rattle.history_keeper.specs.Signs.{KeeperSigns}
 use Rattle.update_log.specs.declared.event.Event.{Event}
-use Rattle.update_log.specs.declared.facts.Facts.{Facts}
-use Rattle.update_log.specs.CoreFolds.{AllFaults}
-use Rattle.update_log.specs.Known.{doubt, rows}
+use Rattle.update_log.specs.Known.{Basis, basis_of, doubt, rows}
 use Rattle.update_log.specs.Legal.{Legal}
 use Rattle.update_log.specs.Once.{Fits, IsTakenOnce, Once}
-use Rattle.update_log.specs.Pasts.{boots, past_of}
-use Rattle.update_log.specs.Shows.{Campaign}
+use Rattle.update_log.specs.Pasts.{AllFaults, boots, past_of}
+use Rattle.update_log.specs.Shows.{Campaign, campaign_on}
 use Rattle.daemon_core.specs.Boards.{faulty_ends, journal_and_view}
 use Rattle.daemon_core.specs.Boots.{BreaksAt}
+use Rattle.daemon_core.specs.House.{shown_by}
 use Rattle.daemon_core.specs.Keeping.{HasRows, WasReopened, keeper_faults, last_faulted}
 use Rattle.daemon_core.specs.Reading.{AreOthers, AreTold}
 use Rattle.client_scripts.specs.declared.item.Item.{Item}
@@ -23,7 +23,11 @@ use Rattle.client_plays.specs.Tools.{Means, ShelfTold, ShelvesStay}
 use Rattle.client_threads.specs.declared.ending.Ending.{Ending}
 use Rattle.client_threads.specs.declared.ending.Ran.{Ran}
 use Rattle.client_threads.specs.Promises.{PlayedBoots}
-use Rattle.fwupd_service.specs.Worlds.{KeeperSigns}
+use Rattle.site_types.specs.declared.campaign.Campaign as sites
+
+-- What the log of a site's campaign stands on over the rows before it: its facts, what its boards show, and its boots.
+abbrev pub campaign_over : sites.Campaign → List Row → Campaign
+campaign_over campaign opening = campaign_on (basis_of campaign.facts opening) (map shown_by campaign.boards.items) campaign.boots
 
 -- The log is legal over the rows before it, so each answer is the one that the log before it calls for: a
 -- refusal names the first condition that isn't met, and an entry is judged by the version that its device
@@ -31,14 +35,14 @@ use Rattle.fwupd_service.specs.Worlds.{KeeperSigns}
 -- where they are one, each write that a board lived through belongs to one accepted request, no tag has two
 -- rows, no entry was taken twice, and the rows are a valid history still. A board met at least the faults
 -- that the log tells of its steps.
-pub record IsTrueLog (c : Campaign) (opening : List Row) (log : List Event) (boards : List BoardState) : Type 0 where
-  pub legal : Legal c opening log
-  pub fits : Fits c opening log (map journal_and_view boards)
-  pub history : IsHistory opening ⊎ AllFaults (past_of log)
-  pub once : IsHistory opening → Once c opening log (map journal_and_view boards)
-  pub taken : IsHistory opening → IsTakenOnce c.facts opening (past_of log)
-  pub stays : IsHistory opening → IsHistory (rows c.facts opening (past_of log))
-  pub board_faults : (number : ℕ) (b : BoardState) → slice_get boards number ≡ Some b → faulty_ends c.facts opening (past_of log) number ≤ b.faults
+pub record IsTrueLog (c : Campaign) (log : List Event) (boards : List BoardState) : Type 0 where
+  pub legal : Legal c log
+  pub fits : Fits c log (map journal_and_view boards)
+  pub history : IsHistory c.basis.opening ⊎ AllFaults (past_of log)
+  pub once : IsHistory c.basis.opening → Once c log (map journal_and_view boards)
+  pub taken : IsHistory c.basis.opening → IsTakenOnce c.basis (past_of log)
+  pub stays : IsHistory c.basis.opening → IsHistory (rows c.basis (past_of log))
+  pub board_faults : (number : ℕ) (b : BoardState) → slice_get boards number ≡ Some b → faulty_ends c.basis (past_of log) number ≤ b.faults
 
 -- No boot could read the history: what the keeper tells it told as it came, and it has no doubt.
 pub record IsUntouched {K : Type 0} (signs : KeeperSigns K) (log : List Event) (old new : K) : Type 0 where
@@ -60,11 +64,11 @@ IsUnread c log = (last_faulted (past_of log) ≡ true) ⊎ (boots (past_of log) 
 -- didn't read the history, and has the log's rows without or with the change in doubt; or no boot could read the
 -- history, and the keeper is untouched. The rows before the log are its own. Each fault of the keeper that the
 -- log tells was counted by it, and where the log tells none it counted none.
-pub record KeeperStands {K : Type 0} (signs : KeeperSigns K) (c : Campaign) (opening : List Row) (log : List Event) (old new : K) : Type 0 where
+pub record KeeperStands {K : Type 0} (signs : KeeperSigns K) (c : Campaign) (log : List Event) (old new : K) : Type 0 where
   pub keeps : IsUntouched signs log old new
-      ⊎ (HasRows signs.tells signs.doubt new (rows c.facts opening (past_of log)) (doubt c.facts opening (past_of log))
-      ⊎ (IsUnread c log × WasReopened signs.tells signs.doubt new (rows c.facts opening (past_of log)) (doubt c.facts opening (past_of log))))
-  pub opening_is : IsOpening (signs.tells old) (signs.tells new) opening log
+      ⊎ (HasRows signs new (rows c.basis (past_of log)) (doubt c.basis (past_of log))
+      ⊎ (IsUnread c log × WasReopened signs new (rows c.basis (past_of log)) (doubt c.basis (past_of log))))
+  pub opening_is : IsOpening (signs.tells old) (signs.tells new) c.basis.opening log
   pub counted : (keeper_faults (past_of log) + signs.faults old ≤ signs.faults new) ⊎ (2 ^ 64 - 1 ≤ signs.faults new)
   pub quiet : keeper_faults (past_of log) ≡ 0 → signs.faults new ≡ signs.faults old
   pub counts : signs.faults old ≤ signs.faults new
@@ -77,22 +81,22 @@ pub record ShelvesStand (log : List Event) (old new : List ShelfTold) : Type 0 w
 
 -- The rows that a boot read are no valid history from this row on, and no boot before could read any; or
 -- the keeper tells no rows, and a later boot read others than the log's.
-abbrev pub IsBadHistory : {K : Type 0} → (K → List Row → Type 0) → ℕ → Facts → List Row → List Event → K → Type 0
-IsBadHistory told entry facts opening log keeper =
-    (AllFaults (past_of log) × BreaksAt entry opening)
-    ⊎ (IsHistory opening × ((all : List Row) → told keeper all → ⊥) × ((loaded : List Row) × AreOthers entry loaded (rows facts opening (past_of log)) (doubt facts opening (past_of log))))
+abbrev pub IsBadHistory : {K : Type 0} → (K → List Row → Type 0) → ℕ → Basis → List Event → K → Type 0
+IsBadHistory told entry basis log keeper =
+    (AllFaults (past_of log) × BreaksAt entry basis.opening)
+    ⊎ (IsHistory basis.opening × ((all : List Row) → told keeper all → ⊥) × ((loaded : List Row) × AreOthers entry loaded (rows basis (past_of log)) (doubt basis (past_of log))))
 
 -- How many of the boots were run, by how the campaign ended: all, or fewer.
-abbrev pub EndsAt : {K : Type 0} → (K → List Row → Type 0) → Ending → Campaign → List Row → List Event → K → ℕ → Type 0
-EndsAt told Ending.Whole c opening log keeper count = count ≡ length c.plans
-EndsAt told (Ending.BadHistory entry) c opening log keeper count = (count < length c.plans) × IsBadHistory told entry c.facts opening log keeper
-EndsAt told Ending.NoMemory c opening log keeper count = count < length c.plans
+abbrev pub EndsAt : {K : Type 0} → (K → List Row → Type 0) → Ending → Campaign → List Event → K → ℕ → Type 0
+EndsAt told Ending.Whole c log keeper count = count ≡ length c.plans
+EndsAt told (Ending.BadHistory entry) c log keeper count = (count < length c.plans) × IsBadHistory told entry c.basis log keeper
+EndsAt told Ending.NoMemory c log keeper count = count < length c.plans
 
 -- A campaign was played: so many of its boots, each by its plan, with the scripts. `means` has those of each
 -- client.
-pub record WasPlayed {K : Type 0} (signs : KeeperSigns K) (means : ℕ → Means) (ran : Ran) (c : Campaign) (scripts : List (List (List Item))) (opening : List Row) (log : List Event) (boards : List BoardState) (old new : K) : Type 0 where
-  pub true_log : IsTrueLog c opening log boards
-  pub keeper : KeeperStands signs c opening log old new
+pub record WasPlayed {K : Type 0} (signs : KeeperSigns K) (means : ℕ → Means) (ran : Ran) (c : Campaign) (scripts : List (List (List Item))) (log : List Event) (boards : List BoardState) (old new : K) : Type 0 where
+  pub true_log : IsTrueLog c log boards
+  pub keeper : KeeperStands signs c log old new
   pub count : ℕ
-  pub played : PlayedBoots ran.wanting c opening means scripts count log
-  pub ends : EndsAt signs.tells ran.ending c opening log new count
+  pub played : PlayedBoots ran.wanting c means scripts count log
+  pub ends : EndsAt signs.tells ran.ending c log new count

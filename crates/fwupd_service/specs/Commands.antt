@@ -4,6 +4,7 @@ use Rattle.outer_traits.specs.Sinks.{Took, TookFront}
 use Rattle.fw_facts.specs.declared.machine.MachineFacts.{MachineFacts}
 use Rattle.history_keeper.specs.declared.row.Row.{Row}
 use Rattle.history_keeper.specs.Keepers.{StillTold}
+use Rattle.history_keeper.specs.Signs.{KeeperSigns}
 use Rattle.plugin_order.specs.declared.sheet.PluginSheet.{PluginSheet}
 use Rattle.update_log.specs.declared.facts.PluginVetoes.{PluginVetoes}
 use Rattle.command_outputs.specs.Printed.{ids_output}
@@ -20,7 +21,7 @@ use Rattle.fwupd_service.specs.Plugged.{Plugins}
 use Rattle.update_plans.specs.Tags.{IsTag}
 use Rattle.fwupd_service.specs.Tops.{Left, NothingBegan, RunEnds}
 use Rattle.fwupd_service.specs.Updates.{PlanEnds, UpdateEnds}
-use Rattle.fwupd_service.specs.Worlds.{KeeperSigns, World}
+use Rattle.fwupd_service.specs.Worlds.{World}
 
 -- The shelves are those that came, but under `run` and `update`, whose clients fetch from them.
 abbrev pub KeepsShelves : {P : Type 0} → Option Command → List P → List P → Type 0

@@ -3,6 +3,7 @@ use Rattle.std.specs.Prelude.{◌≡◌, ◌⊎◌, ◌≤◌, ◌<◌, ◌+◌,
 use Rattle.fw_facts.specs.declared.machine.MachineFacts.{MachineFacts}
 use Rattle.history_keeper.specs.declared.row.Row.{Row}
 use Rattle.history_keeper.specs.Histories.{IsHistory}
+use Rattle.history_keeper.specs.Signs.{KeeperSigns}
 use Rattle.plugin_order.specs.declared.sheet.PluginSheet.{PluginSheet}
 use Rattle.plugin_order.specs.Arranged.{CanBeArranged}
 use Rattle.outer_traits.specs.Sinks.{Took}
@@ -13,6 +14,7 @@ use Rattle.update_log.specs.declared.event.Event.{Event}
 use Rattle.update_log.specs.declared.facts.PluginVetoes.{PluginVetoes}
 use Rattle.update_log.specs.Legal.{BelowLimit, Legal}
 use Rattle.update_log.specs.Pasts.{off, past_of}
+use Rattle.update_log.specs.Known.{basis_of}
 use Rattle.update_plans.specs.Following.{IsFollowed}
 use Rattle.update_plans.specs.Plans.{release_at, request_of, scene}
 use Rattle.update_plans.specs.declared.plan.PlanStep.{PlanStep}
@@ -20,7 +22,6 @@ use Rattle.daemon_core.specs.Reading.{AreTold}
 use Rattle.daemon_core.specs.House.{shown_by}
 use Rattle.client_plays.specs.Shelves.{means_for}
 use Rattle.client_plays.specs.Tools.{ShelfTold}
-use Rattle.client_threads.specs.Planned.{with_plans}
 use Rattle.site_types.specs.declared.campaign.Campaign.{Campaign}
 use Rattle.site_types.specs.declared.site.Site.{Site}
 use Rattle.site_making.specs.Made.{made_site}
@@ -38,13 +39,14 @@ use Rattle.command_outputs.specs.Summed.{summary}
 use Rattle.report_text.specs.Report.{report}
 use Rattle.run_status.specs.declared.status.Status.{Status}
 use Rattle.run_status.specs.declared.status.Status.TheVariants as statuses
+use Rattle.fwupd_service.specs.Campaigns.{campaign_over}
 use Rattle.fwupd_service.specs.Commands.{Checked, Explained, Identified, RemotesTold}
 use Rattle.fwupd_service.specs.Ends.{WentWhole}
 use Rattle.fwupd_service.specs.Makes.{MakeEnds, own_shelves}
 use Rattle.fwupd_service.specs.Plugged.{AreStarted, PluginWords, Plugins, plugins_with, work_of}
 use Rattle.fwupd_service.specs.Tops.{Left, RunEnds}
 use Rattle.fwupd_service.specs.Updates.{PlanEnds, UpdateEnds, planned_items, printed_plan}
-use Rattle.fwupd_service.specs.Worlds.{KeeperSigns, World}
+use Rattle.fwupd_service.specs.Worlds.{World}
 
 -- ---- the input
 
@@ -102,7 +104,7 @@ pub record SiteWentWhole {K Q : Type 0} (shelves : List ShelfTold) (plugins : Pl
   pub settled : IsCampaignOf site plugins.sheets (plugins.vetoes site.machine) campaign
   pub started : List Q
   pub started_are : AreStarted plugins.words plugins.sheets campaign.facts started
-  pub whole : WentWhole (means_for (work_of plugins.words started) shelves) (with_plans campaign.facts (map shown_by campaign.boards.items) campaign.boots) left.opening campaign.scripts left.log (text campaign) before after
+  pub whole : WentWhole (means_for (work_of plugins.words started) shelves) (campaign_over campaign left.opening) campaign.scripts left.log (text campaign) before after
 
 -- All was done, or else memory was wanting, or the output failed; or, where the keeper tells no rows, a later boot read
 -- others than the log's.
@@ -121,7 +123,7 @@ RunCompletes {K = K} signs words =
     → RunEnds signs (plugins_with sheets vetoes words) status keeper left before after
     → CanBeArranged sheets → HistoryHeld signs keeper left
     → InputGave (limits.Shelves (length before.shelves)) status before.unread after.unread
-    (λ site. RunDone signs.tells left.keeper (SiteWentWhole before.shelves (plugins_with sheets vetoes words) site left (λ campaign. report campaign.facts left.opening left.log) before.written after.written) status)
+    (λ site. RunDone signs.tells left.keeper (SiteWentWhole before.shelves (plugins_with sheets vetoes words) site left (λ campaign. report (basis_of campaign.facts left.opening) left.log) before.written after.written) status)
 
 -- ---- `plan`
 
@@ -154,7 +156,7 @@ pub record SiteUpdated {K Q : Type 0} (told : K → List Row → Type 0) (shelve
   pub told_are : AreTold (told keeper) (told left.keeper) rows
   pub made : Campaign
   pub plays : Plays (planned_items campaign rows tag) campaign made
-  pub whole : WentWhole (means_for (work_of plugins.words started) shelves) (with_plans made.facts (map shown_by made.boards.items) made.boots) left.opening made.scripts left.log (report made.facts left.opening left.log) before after
+  pub whole : WentWhole (means_for (work_of plugins.words started) shelves) (campaign_over made left.opening) made.scripts left.log (report (basis_of made.facts left.opening) left.log) before after
 
 -- `update` is complete: where the plugins can be arranged and the history held, its input gave no site, or the plan of
 -- that site's first boot was played whole and its report was written, but for the causes of `run`.
@@ -178,12 +180,12 @@ IsHeld (AskAnswer.Refused refusal) = ⊥
 abbrev pub UpdateAccepts : Type 0
 UpdateAccepts =
     (campaign : Campaign) (opening : List Row) (tag : List ℕ) (done : List PlanStep) (step : PlanStep) (more : List PlanStep) (chosen : Chosen) (log past now : List Event) (answer : AskAnswer)
-    → Legal (with_plans campaign.facts (map shown_by campaign.boards.items) campaign.boots) opening log
-    → past_of log ≡ past ++ Event.Ask 1 (request_of (scene campaign.facts opening 1 tag) (length done + 1) step chosen) None answer ∷ now
-    → release_at (scene campaign.facts opening 1 tag) step.release ≡ Some chosen
+    → Legal (campaign_over campaign opening) log
+    → past_of log ≡ past ++ Event.Ask 1 (request_of (scene (basis_of campaign.facts opening) 1 tag) (length done + 1) step chosen) None answer ∷ now
+    → release_at (scene (basis_of campaign.facts opening) 1 tag) step.release ≡ Some chosen
     → first_steps campaign.facts (map shown_by campaign.boards.items) campaign.boots opening tag ≡ done ++ step ∷ more
     → IsHistory opening
-    → IsFollowed (scene campaign.facts opening 1 tag) 1 done
+    → IsFollowed (scene (basis_of campaign.facts opening) 1 tag) 1 done
     (first_log campaign.boots (map shown_by campaign.boards.items)) (first_log campaign.boots (map shown_by campaign.boards.items)) now
     → off now ≡ false → BelowLimit now → IsHeld answer
 

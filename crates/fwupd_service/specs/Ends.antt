@@ -1,6 +1,5 @@
 -- How a campaign ends: its status, and what was written.
-use Rattle.std.specs.Prelude.{◌≡◌, ◌<◌, ◌≤◌, ◌||◌, ℕ, Bool, true, false, List, length, Option, Some, if◌then◌else◌}
-use Rattle.emulated_boards.specs.Boards.{BoardState}
+use Rattle.std.specs.Prelude.{◌≡◌, ◌<◌, ◌≤◌, ◌||◌, ℕ, Bool, true, false, List, length, Option, if◌then◌else◌}
 use Rattle.outer_traits.specs.Sinks.{Took, TookFront}
 use Rattle.history_keeper.specs.declared.row.Row.{Row}
 use Rattle.update_log.specs.declared.event.Event.{Event}
@@ -44,49 +43,41 @@ pub record IsReported (status : Status) (ending : Ending) (wanting : Bool) (log 
   pub took : WasWritten written text before after
   pub status_is : status ≡ written_status written (played_status ending (wanting || any_want log) (any_fault log))
 
--- A run leaves what the campaign left.
-pub record IsLeft {P K : Type 0} (log : List Event) (opening : List Row) (boards : List BoardState) (keeper : K) (shelves : List P) (log' : List Event) (opening' : List Row) (boards' : Option (List BoardState)) (keeper' : K) (shelves' : List P) : Type 0 where
-  pub log_is : log' ≡ log
-  pub opening_is : opening' ≡ opening
-  pub boards_are : boards' ≡ Some boards
-  pub keeper_is : keeper' ≡ keeper
-  pub shelves_are : shelves' ≡ shelves
-
 -- All boots were run, and each script was played whole, as far as its boot didn't go off: `means` has those
 -- of each client, which its fetches and its steps show. Nothing was left for want of memory, and the output was
 -- written whole.
-pub record WentWhole (means : ℕ → Means) (c : Campaign) (opening : List Row) (scripts : List (List (List Item))) (log : List Event) (text : List ℕ) (before after : Option (List ℕ)) : Type 0 where
-  pub played : PlayedWhole false c opening means scripts log
+pub record WentWhole (means : ℕ → Means) (c : Campaign) (scripts : List (List (List Item))) (log : List Event) (text : List ℕ) (before after : Option (List ℕ)) : Type 0 where
+  pub played : PlayedWhole false c means scripts log
   pub no_want : any_want log ≡ false
   pub took : Took text before after
 
 -- A boot read no history that could be the log's. The boots before were played so, and the output was
 -- written whole.
-pub record WentBad {K : Type 0} (told : K → List Row → Type 0) (means : ℕ → Means) (entry : ℕ) (c : Campaign) (opening : List Row) (scripts : List (List (List Item))) (log : List Event) (keeper : K) (text : List ℕ) (before after : Option (List ℕ)) : Type 0 where
+pub record WentBad {K : Type 0} (told : K → List Row → Type 0) (means : ℕ → Means) (entry : ℕ) (c : Campaign) (scripts : List (List (List Item))) (log : List Event) (keeper : K) (text : List ℕ) (before after : Option (List ℕ)) : Type 0 where
   pub count : ℕ
   pub fewer : count < length c.plans
-  pub played : PlayedBoots false c opening means scripts count log
+  pub played : PlayedBoots false c means scripts count log
   pub no_want : any_want log ≡ false
-  pub bad : IsBadHistory told entry c.facts opening log keeper
+  pub bad : IsBadHistory told entry c.basis log keeper
   pub took : Took text before after
 
 -- So many boots were run, and what they played was left at most for want of memory. A front of the output
 -- was written, or all of it.
-pub record WentSome (means : ℕ → Means) (c : Campaign) (opening : List Row) (scripts : List (List (List Item))) (log : List Event) (text : List ℕ) (before after : Option (List ℕ)) : Type 0 where
+pub record WentSome (means : ℕ → Means) (c : Campaign) (scripts : List (List (List Item))) (log : List Event) (text : List ℕ) (before after : Option (List ℕ)) : Type 0 where
   pub wanting : Bool
   pub count : ℕ
   pub within : count ≤ length c.plans
-  pub played : PlayedBoots wanting c opening means scripts count log
+  pub played : PlayedBoots wanting c means scripts count log
   pub took : TookFront text before after
 
 -- What a status says of a campaign with this log, and of what the sink took of its output.
-abbrev pub CampaignEnds : {K : Type 0} → (K → List Row → Type 0) → (ℕ → Means) → Status → Campaign → List Row → List (List (List Item)) → List Event → K → List ℕ → Option (List ℕ) → Option (List ℕ) → Type 0
-CampaignEnds told means statuses.Done c opening scripts log keeper text before after =
-    (any_fault log ≡ false) × WentWhole means c opening scripts log text before after
-CampaignEnds told means statuses.KeeperFault c opening scripts log keeper text before after =
-    (any_fault log ≡ true) × WentWhole means c opening scripts log text before after
-CampaignEnds told means (statuses.BadHistory entry) c opening scripts log keeper text before after =
-    WentBad told means entry c opening scripts log keeper text before after
-CampaignEnds told means statuses.SinkFault c opening scripts log keeper text before after = WentSome means c opening scripts log text before after
-CampaignEnds told means statuses.NoMemory c opening scripts log keeper text before after = WentSome means c opening scripts log text before after
-CampaignEnds told means _ c opening scripts log keeper text before after = ⊥
+abbrev pub CampaignEnds : {K : Type 0} → (K → List Row → Type 0) → (ℕ → Means) → Status → Campaign → List (List (List Item)) → List Event → K → List ℕ → Option (List ℕ) → Option (List ℕ) → Type 0
+CampaignEnds told means statuses.Done c scripts log keeper text before after =
+    (any_fault log ≡ false) × WentWhole means c scripts log text before after
+CampaignEnds told means statuses.KeeperFault c scripts log keeper text before after =
+    (any_fault log ≡ true) × WentWhole means c scripts log text before after
+CampaignEnds told means (statuses.BadHistory entry) c scripts log keeper text before after =
+    WentBad told means entry c scripts log keeper text before after
+CampaignEnds told means statuses.SinkFault c scripts log keeper text before after = WentSome means c scripts log text before after
+CampaignEnds told means statuses.NoMemory c scripts log keeper text before after = WentSome means c scripts log text before after
+CampaignEnds told means _ c scripts log keeper text before after = ⊥

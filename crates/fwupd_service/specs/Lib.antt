@@ -19,7 +19,7 @@ pub use Rattle.plugin_order.specs.Arranged
 pub use Rattle.emulated_boards.specs.Boards as EmulatedBoardsBoards
 pub use Rattle.history_keeper.specs.Changes
 pub use Rattle.history_keeper.specs.Histories
-pub use Rattle.update_log.specs.CoreFolds
+pub use Rattle.history_keeper.specs.Signs
 pub use Rattle.update_log.specs.Known
 pub use Rattle.update_log.specs.Legal
 pub use Rattle.update_log.specs.Once

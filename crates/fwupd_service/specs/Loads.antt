@@ -4,13 +4,13 @@ use Rattle.outer_traits.specs.Faults.{Rose}
 use Rattle.history_keeper.specs.declared.row.Row.{Row}
 use Rattle.history_keeper.specs.Histories.{IsHistory}
 use Rattle.history_keeper.specs.Keepers.{StillTold}
+use Rattle.history_keeper.specs.Signs.{KeeperSigns}
 use Rattle.daemon_core.specs.Boots.{BreaksAt}
 use Rattle.daemon_core.specs.Reading.{AreTold}
 use Rattle.run_status.specs.declared.status.Status.{Status}
 use Rattle.run_status.specs.declared.status.Status.TheVariants as statuses
 use Rattle.fwupd_service.specs.declared.loading.LoadStop.{LoadStop}
 use Rattle.fwupd_service.specs.declared.loading.LoadStop.TheVariants as loads
-use Rattle.fwupd_service.specs.Worlds.{KeeperSigns}
 
 -- How a status tells that nothing is planned over the rows.
 abbrev pub load_status : LoadStop → Status

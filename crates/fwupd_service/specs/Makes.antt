@@ -1,6 +1,7 @@
 -- What `make` comes to.
 use Rattle.std.specs.Prelude.{◌≡◌, ◌⊎◌, ℕ, false, List, [], ◌∷◌, replicate, Option, Some, None}
 use Rattle.history_keeper.specs.declared.row.Row.{Row}
+use Rattle.history_keeper.specs.Signs.{KeeperSigns}
 use Rattle.plugin_order.specs.declared.sheet.PluginSheet.{PluginSheet}
 use Rattle.plugin_trait.specs.Steps.{PluginSteps}
 use Rattle.plugin_order.specs.declared.arrangement.OrderFault.{OrderFault}
@@ -18,7 +19,6 @@ use Rattle.run_status.specs.declared.status.Status.TheVariants as statuses
 use Rattle.fwupd_service.specs.Plugged.{AreStarted, Plugins, work_of}
 use Rattle.fwupd_service.specs.Telling.{any_fault}
 use Rattle.fwupd_service.specs.Tops.{CampaignTold, Left, NothingBegan}
-use Rattle.fwupd_service.specs.Worlds.{KeeperSigns}
 
 -- How a status tells that plugins can't be arranged.
 abbrev pub order_status : OrderFault → Status

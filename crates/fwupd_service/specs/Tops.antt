@@ -2,12 +2,11 @@
 use Rattle.std.specs.Prelude.{◌≡◌, ◌⊎◌, ℕ, List, [], length, map, Option, Some, None}
 use Rattle.emulated_boards.specs.Boards.{BoardState}
 use Rattle.history_keeper.specs.declared.row.Row.{Row}
+use Rattle.history_keeper.specs.Signs.{KeeperSigns}
 use Rattle.plugin_order.specs.declared.sheet.PluginSheet.{PluginSheet}
 use Rattle.plugin_trait.specs.Steps.{PluginSteps}
 use Rattle.update_log.specs.declared.event.Event.{Event}
-use Rattle.daemon_core.specs.House.{shown_by}
 use Rattle.client_plays.specs.Shelves.{means_for}
-use Rattle.client_threads.specs.Planned.{with_plans}
 use Rattle.site_types.specs.declared.campaign.Campaign.{Campaign}
 use Rattle.campaign_inputs.specs.declared.opening.ClientLimit.TheVariants as limits
 use Rattle.campaign_inputs.specs.declared.opening.OpenStop.{OpenStop}
@@ -16,10 +15,11 @@ use Rattle.campaign_inputs.specs.Opened.{HasStopped, IsOpened}
 use Rattle.report_text.specs.Report.{report}
 use Rattle.run_status.specs.declared.status.Status.{Status}
 use Rattle.run_status.specs.declared.status.Status.TheVariants as statuses
-use Rattle.fwupd_service.specs.Campaigns.{IsTrueLog, KeeperStands, ShelvesStand}
+use Rattle.fwupd_service.specs.Campaigns.{IsTrueLog, KeeperStands, ShelvesStand, campaign_over}
 use Rattle.fwupd_service.specs.Ends.{CampaignEnds}
 use Rattle.fwupd_service.specs.Plugged.{AreStarted, Plugins, work_of}
-use Rattle.fwupd_service.specs.Worlds.{KeeperSigns, Setting, World, setting_in}
+use Rattle.fwupd_service.specs.Worlds.{Setting, World, setting_in}
+use Rattle.update_log.specs.Known.{basis_of}
 
 -- What a run leaves: its log, the rows before it, the boards where a campaign began, and the keeper.
 pub record Left (K : Type 0) : Type 0 where
@@ -27,6 +27,10 @@ pub record Left (K : Type 0) : Type 0 where
   pub opening : List Row
   pub boards : Option (List BoardState)
   pub keeper : K
+
+-- What a campaign left that was played.
+abbrev pub IsLeft : {K : Type 0} → List Event → List Row → List BoardState → K → Left K → Type 0
+IsLeft log opening boards keeper left = left ≡ record { log = log; opening = opening; boards = Some boards; keeper = keeper }
 
 -- No campaign began: nothing happened, the keeper is as it came, and nothing was written.
 pub record NothingBegan {K : Type 0} (keeper : K) (left : Left K) (before after : Option (List ℕ)) : Type 0 where
@@ -52,11 +56,11 @@ stop_status stops.NoMemory = statuses.NoMemory
 pub record CampaignTold {K : Type 0} (signs : KeeperSigns K) (work : ℕ → PluginSteps) (status : Status) (campaign : Campaign) (keeper : K) (left : Left K) (text : List ℕ) (before after : Setting) : Type 0 where
   pub boards : List BoardState
   pub boards_are : left.boards ≡ Some boards
-  pub true_log : IsTrueLog (with_plans campaign.facts (map shown_by campaign.boards.items) campaign.boots) left.opening left.log boards
+  pub true_log : IsTrueLog (campaign_over campaign left.opening) left.log boards
   pub board_plans : map (λ b. b.plan) boards ≡ map (λ b. b.plan) campaign.boards.items
-  pub keeper_stands : KeeperStands signs (with_plans campaign.facts (map shown_by campaign.boards.items) campaign.boots) left.opening left.log keeper left.keeper
+  pub keeper_stands : KeeperStands signs (campaign_over campaign left.opening) left.log keeper left.keeper
   pub shelves_stand : ShelvesStand left.log before.shelves after.shelves
-  pub ends : CampaignEnds signs.tells (means_for work before.shelves) status (with_plans campaign.facts (map shown_by campaign.boards.items) campaign.boots) left.opening campaign.scripts left.log left.keeper text before.written after.written
+  pub ends : CampaignEnds signs.tells (means_for work before.shelves) status (campaign_over campaign left.opening) campaign.scripts left.log left.keeper text before.written after.written
 
 -- A campaign could begin: it was played, unless there was no memory for its house.
 abbrev pub CampaignWent : {K : Type 0} → KeeperSigns K → (ℕ → PluginSteps) → Status → Campaign → K → Left K → List ℕ → Setting → Setting → Type 0
@@ -78,7 +82,7 @@ pub record RunWent {K Q : Type 0} (signs : KeeperSigns K) (plugins : Plugins Q) 
   pub opened : IsOpened (limits.Shelves (length before.shelves)) plugins.sheets plugins.vetoes before.unread after.unread campaign
   pub started : List Q
   pub started_are : AreStarted plugins.words plugins.sheets campaign.facts started
-  pub went : CampaignWent signs (work_of plugins.words started) status campaign keeper left (report campaign.facts left.opening left.log) (setting_in before) (setting_in after)
+  pub went : CampaignWent signs (work_of plugins.words started) status campaign keeper left (report (basis_of campaign.facts left.opening) left.log) (setting_in before) (setting_in after)
 
 abbrev pub RunEnds : {K Q : Type 0} → KeeperSigns K → Plugins Q → Status → K → Left K → World → World → Type 0
 RunEnds signs plugins status keeper left before after =

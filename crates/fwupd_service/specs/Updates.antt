@@ -2,6 +2,7 @@
 use Rattle.std.specs.Prelude.{◌≡◌, ◌⊎◌, ℕ, List, [], length, map, Option, Some, None}
 use Rattle.fw_facts.specs.declared.machine.MachineFacts.{MachineFacts}
 use Rattle.history_keeper.specs.declared.row.Row.{Row}
+use Rattle.history_keeper.specs.Signs.{KeeperSigns}
 use Rattle.plugin_order.specs.declared.sheet.PluginSheet.{PluginSheet}
 use Rattle.plugin_trait.specs.Steps.{PluginSteps}
 use Rattle.update_log.specs.declared.facts.PluginVetoes.{PluginVetoes}
@@ -22,7 +23,8 @@ use Rattle.fwupd_service.specs.declared.loading.LoadStop.{LoadStop}
 use Rattle.fwupd_service.specs.Loads.{WasLoaded, load_status}
 use Rattle.fwupd_service.specs.Plugged.{AreStarted, Plugins, work_of}
 use Rattle.fwupd_service.specs.Tops.{CampaignWent, Left, RunStopped}
-use Rattle.fwupd_service.specs.Worlds.{KeeperSigns, Setting, World, setting_in}
+use Rattle.fwupd_service.specs.Worlds.{Setting, World, setting_in}
+use Rattle.update_log.specs.Known.{basis_of}
 
 -- What a text was written under a status: all of it, a front of it, or nothing.
 abbrev pub WasPrinted : List ℕ → Status → Option (List ℕ) → Option (List ℕ) → Type 0
@@ -37,7 +39,7 @@ printed_plan campaign rows tag = plan_output campaign.facts (map shown_by campai
 
 abbrev pub planned_items : Campaign → List Row → List ℕ → List Item
 planned_items campaign rows tag =
-    installs_from (scene campaign.facts rows 1 tag) 1 (first_steps campaign.facts (map shown_by campaign.boards.items) campaign.boots rows tag)
+    installs_from (scene (basis_of campaign.facts rows) 1 tag) 1 (first_steps campaign.facts (map shown_by campaign.boards.items) campaign.boots rows tag)
 
 -- The history was loaded, and nothing began: nothing happened, and the rows before are those that the load gave.
 pub record OnlyLoaded {K : Type 0} (signs : KeeperSigns K) (stop : Option LoadStop) (keeper : K) (left : Left K) : Type 0 where
@@ -86,7 +88,7 @@ pub record PlanPlayed {K : Type 0} (signs : KeeperSigns K) (work : ℕ → Plugi
   pub loaded : WasLoaded signs None rows keeper middle
   pub made : Campaign
   pub plays : Plays (planned_items campaign rows tag) campaign made
-  pub went : CampaignWent signs work status made middle left (report made.facts left.opening left.log) before after
+  pub went : CampaignWent signs work status made middle left (report (basis_of made.facts left.opening) left.log) before after
 
 -- There was no memory for the plan.
 pub record PlanWanted {K : Type 0} (signs : KeeperSigns K) (status : Status) (keeper : K) (left : Left K) (before after : Option (List ℕ)) : Type 0 where

@@ -3,9 +3,9 @@
 //! A command over a document does its whole work with the site that its input gives. What may keep it from that is the
 //! same for each: the input gives no site, and the status says why; memory was wanting; the input or the output failed.
 //! Of a source that doesn't tell what it has left, the bytes that gave the site are some bytes.
+ghost use Rattle.history_keeper.specs.Signs.{signs_of};
 ghost use Rattle.fwupd_service.specs.Complete.{CheckCompletes, ExplainCompletes, IdsCompletes, InputIsTold, MakeCompletes, PlanCompletes, RemotesCompletes, RunCompletes, UpdateAccepts, UpdateCompletes};
 ghost use Rattle.fwupd_service.specs.Plugged.{plugin_words};
-ghost use Rattle.fwupd_service.specs.Worlds.{keeper_signs};
 
 use history_keeper::Keeper;
 use plugin_trait::Plugin;
@@ -21,19 +21,19 @@ pub fn input_is_told()
 /// writes its report, unless kept from it so, or by rows of another's in a history that doesn't tell its rows. The
 /// plugins may be of any kind.
 pub fn run_completes<K: Keeper, Q: Plugin>()
-    ensures { RunCompletes (keeper_signs K.tells K.doubt K.faults) (plugin_words Q.own_sheet Q.own_vetoes Q.steps) }
+    ensures { RunCompletes (signs_of K.tells K.doubt K.faults) (plugin_words Q.own_sheet Q.own_vetoes Q.steps) }
 {}
 
 /// Where the plugins can be arranged and the history held, `plan` prints the plan of the first boot of its input's
 /// site, unless kept from it so.
 pub fn plan_completes<K: Keeper>()
-    ensures { PlanCompletes (keeper_signs K.tells K.doubt K.faults) }
+    ensures { PlanCompletes (signs_of K.tells K.doubt K.faults) }
 {}
 
 /// Where the plugins can be arranged and the history held, `update` plays that plan whole, and writes its report,
 /// unless kept from it as `run` may be.
 pub fn update_completes<K: Keeper, Q: Plugin>()
-    ensures { UpdateCompletes (keeper_signs K.tells K.doubt K.faults) (plugin_words Q.own_sheet Q.own_vetoes Q.steps) }
+    ensures { UpdateCompletes (signs_of K.tells K.doubt K.faults) (plugin_words Q.own_sheet Q.own_vetoes Q.steps) }
 {}
 
 /// Where the plays of the installs before ended well, and their devices show what was planned, `update` accepts the

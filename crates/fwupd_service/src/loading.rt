@@ -1,8 +1,8 @@
 //! A load of the history before anything is planned.
 ghost use Rattle.std.specs.Prelude.{◌≡◌, [], None, Some};
+ghost use Rattle.history_keeper.specs.Signs.{signs_of};
 ghost use Rattle.daemon_core.specs.Reading.{place_told};
 ghost use Rattle.fwupd_service.specs.Loads.{IsJudged, WasLoaded, load_status};
-ghost use Rattle.fwupd_service.specs.Worlds.{keeper_signs};
 
 use fw_base::NoMemory;
 use history_keeper::{Keeper, KeeperRefusal, Row, first_faulty};
@@ -30,7 +30,7 @@ pub(crate) struct Loaded {
 #[tactic(auto, using(crate::proofs::LoadLaws::rows_told))]
 pub(crate) fn load<K: Keeper>(alloc: Global, keeper: &mut K) -> Loaded
     requires no_doubt { K.doubt keeper.old ≡ None }
-    ensures { WasLoaded (keeper_signs K.tells K.doubt K.faults) result.stop result.rows.items keeper.old keeper.new }
+    ensures { WasLoaded (signs_of K.tells K.doubt K.faults) result.stop result.rows.items keeper.old keeper.new }
 {
     match keeper.load(alloc) {
         Ok(rows) => {

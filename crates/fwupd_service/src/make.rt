@@ -3,7 +3,8 @@ ghost use Rattle.std.specs.Prelude.{◌≡◌, ◌⊎◌, ◌≤◌, replicate, 
 ghost use Rattle.outer_traits.specs.Faults.{Rose};
 ghost use Rattle.fwupd_service.specs.Begins.{CanBePlayed, IsReadyFor};
 ghost use Rattle.command_outputs.specs.Summed.{summary};
-ghost use Rattle.fwupd_service.specs.Ends.{IsLeft, IsReported};
+ghost use Rattle.fwupd_service.specs.Ends.{IsReported};
+ghost use Rattle.fwupd_service.specs.Tops.{IsLeft};
 ghost use Rattle.fwupd_service.specs.Plugged.{plugins_of};
 ghost use Rattle.plugin_trait.specs.Steps.{steps_at};
 ghost use Rattle.fwupd_service.specs.Makes.{MadeOrNothing, MakeEnds, order_status, own_memory};
@@ -147,7 +148,9 @@ fn summed<P, K, T: Sink>(
 ) -> RunLeft<P, K>
     ensures reported { IsReported result.status played.ran.ending played.ran.wanting played.log
         (summary boards clients played.log) (T.taken out.old) (T.taken out.new) }
-    ensures left { IsLeft played.log played.opening played.boards keeper shelves.items result.log result.opening result.boards result.keeper result.shelves.items }
+    ensures left { IsLeft played.log played.opening played.boards keeper
+        (record { log = result.log; opening = result.opening; boards = result.boards; keeper = result.keeper }) }
+    ensures shelves { result.shelves.items ≡ shelves.items }
     ensures sink_fault { result.status ≡ Status.SinkFault → Rose (T.faults out.old) (T.faults out.new) }
     ensures sink_quiet { (result.status ≡ Status.SinkFault) ⊎ (T.faults out.new ≡ T.faults out.old) }
     ensures sink_counts { T.faults out.old ≤ T.faults out.new }

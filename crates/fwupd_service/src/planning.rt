@@ -3,12 +3,12 @@ ghost use Rattle.std.specs.Prelude.{◌≡◌, ◌⊎◌, ◌≤◌, length, map
 ghost use Rattle.outer_traits.specs.Faults.{Rose};
 ghost use Rattle.client_plays.specs.Has.{shelves_told};
 ghost use Rattle.history_keeper.specs.Histories.{IsHistory};
+ghost use Rattle.history_keeper.specs.Signs.{signs_of};
 ghost use Rattle.site_making.specs.Settled.{vetoes_of};
 ghost use Rattle.campaign_inputs.specs.Begin.{CanBegin};
 ghost use Rattle.update_plans.specs.Tags.{IsTag};
 ghost use Rattle.campaign_plans.specs.Printed.{plan_text};
 ghost use Rattle.fwupd_service.specs.Updates.{PlanEnds, PlanGoes, WasPrinted, printed_plan};
-ghost use Rattle.fwupd_service.specs.Worlds.{keeper_signs};
 
 use crate::loading::{Loaded, load, load_status};
 use crate::ran::RunLeft;
@@ -37,7 +37,7 @@ pub(crate) fn plan<S: Source, P: Shelf, K: Keeper, T: Sink>(
     requires few_plugins { length plugins.items ≤ 64 }
     requires no_doubt { K.doubt keeper ≡ None }
     requires tag { IsTag tag }
-    ensures ends { PlanEnds (keeper_signs K.tells K.doubt K.faults) (map (λ p. own_sheet p) plugins.items)
+    ensures ends { PlanEnds (signs_of K.tells K.doubt K.faults) (map (λ p. own_sheet p) plugins.items)
         (λ machine. map (λ p. vetoes_of (own_sheet p) (vetoes_on p machine)) plugins.items) tag result.status keeper
         (record { log = result.log; opening = result.opening; boards = result.boards; keeper = result.keeper })
         (record { shelves = shelves_told P.files P.faults shelves.items; unread = S.left source.old; written = T.taken out.old })
@@ -69,7 +69,7 @@ fn plan_campaign<P, K: Keeper, T: Sink>(
     requires begins { CanBegin campaign.now }
     requires no_doubt { K.doubt keeper ≡ None }
     requires tag { IsTag tag }
-    ensures goes { PlanGoes (keeper_signs K.tells K.doubt K.faults) tag campaign.now result.status keeper
+    ensures goes { PlanGoes (signs_of K.tells K.doubt K.faults) tag campaign.now result.status keeper
         (record { log = result.log; opening = result.opening; boards = result.boards; keeper = result.keeper })
         (T.taken out.old) (T.taken out.new) }
     ensures sink_fault { result.status ≡ Status.SinkFault → Rose (T.faults out.old) (T.faults out.new) }

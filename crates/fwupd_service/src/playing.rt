@@ -1,17 +1,18 @@
 //! A campaign is played on a new house, by clients on threads.
 ghost use Rattle.std.specs.Prelude.{◌≡◌, ◌≤◌, ◌<◌, ◌-◌, ◌^◌, ℕ, [], false, None, Some, All, length, map, slice_get, IfOk, IfErr};
 ghost use Rattle.emulated_boards.specs.Boards.{BoardState};
-ghost use Rattle.daemon_core.specs.House.{IsNewBoard, shown_by};
+ghost use Rattle.history_keeper.specs.Signs.{signs_of};
+ghost use Rattle.daemon_core.specs.House.{IsNewBoard};
 ghost use Rattle.daemon_core.specs.Planned.{plans_in};
 ghost use Rattle.client_plays.specs.Endings.{IsScriptItem};
 ghost use Rattle.client_plays.specs.Shelves.{means_for};
 ghost use Rattle.plugin_trait.specs.Steps.{steps_at};
 ghost use Rattle.client_plays.specs.Tools.{Serves};
 ghost use Rattle.client_plays.specs.Has.{shelves_told, tools_of};
-ghost use Rattle.client_threads.specs.Planned.{with_plans};
 ghost use Rattle.fwupd_service.specs.Begins.{CanBePlayed, IsBegun, IsReadyFor};
-ghost use Rattle.fwupd_service.specs.Campaigns.{ShelvesStand, WasPlayed};
-ghost use Rattle.fwupd_service.specs.Worlds.{keeper_signs};
+ghost use Rattle.fwupd_service.specs.Campaigns.{ShelvesStand, WasPlayed, campaign_over};
+ghost use Rattle.update_log.specs.Known.{basis_of};
+ghost use Rattle.update_log.specs.Shows.{campaign_on};
 
 use block_pool::Pool;
 use client_scripts::Item;
@@ -60,8 +61,8 @@ fn play_house<R: Threads + Wait + Sync, P: Shelf + Send, K: Keeper + Send, G: Ga
     requires proper { All (All (All IsScriptItem)) scripts.now }
     requires clients { All (λ of_boot. length of_boot ≤ 16) scripts.now }
     requires shelves { All (λ of_boot. length of_boot ≤ length (shelves_told P.files P.faults shelves.items)) scripts.now }
-    ensures played { WasPlayed (keeper_signs K.tells K.doubt K.faults) (means_for (steps_at (λ p. steps p) plugins.items) (shelves_told P.files P.faults shelves.items)) result.0.ran (with_plans house.house_log.facts house.house_log.first plans.now)
-        scripts.now result.0.opening result.0.log result.0.boards house.keeper result.0.keeper }
+    ensures played { WasPlayed (signs_of K.tells K.doubt K.faults) (means_for (steps_at (λ p. steps p) plugins.items) (shelves_told P.files P.faults shelves.items)) result.0.ran (campaign_on (basis_of house.house_log.facts result.0.opening) house.house_log.first plans.now)
+        scripts.now result.0.log result.0.boards house.keeper result.0.keeper }
     ensures plans { map (λ b. b.plan) result.0.boards ≡ plans_in house.places }
     ensures facts { result.0.facts ≡ house.house_log.facts }
     ensures few { length result.0.facts.sheets ≤ 256 }
@@ -131,9 +132,9 @@ pub(crate) fn play<R: Threads + Wait + Sync, P: Shelf + Send, K: Keeper + Send, 
     requires ready { CanBePlayed campaign }
     requires shelves { IsReadyFor (length shelves.items) (length plugins.items) campaign }
     requires no_doubt { K.doubt keeper ≡ None }
-    ensures played { IfOk result.0 (λ played. WasPlayed (keeper_signs K.tells K.doubt K.faults) (means_for (steps_at (λ p. steps p) plugins.items) (shelves_told P.files P.faults shelves.items)) played.ran
-        (with_plans campaign.facts (map shown_by campaign.boards.items) campaign.boots)
-        campaign.scripts played.opening played.log played.boards keeper played.keeper) }
+    ensures played { IfOk result.0 (λ played. WasPlayed (signs_of K.tells K.doubt K.faults) (means_for (steps_at (λ p. steps p) plugins.items) (shelves_told P.files P.faults shelves.items)) played.ran
+        (campaign_over campaign played.opening)
+        campaign.scripts played.log played.boards keeper played.keeper) }
     ensures plans { IfOk result.0 (λ played. map (λ b. b.plan) played.boards ≡ map (λ b. b.plan) campaign.boards.items) }
     ensures facts { IfOk result.0 (λ played. played.facts ≡ campaign.facts) }
     ensures few { IfOk result.0 (λ played. length played.facts.sheets ≤ 256) }

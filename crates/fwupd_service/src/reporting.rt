@@ -1,25 +1,29 @@
 //! The end of a campaign: what is written of it, and its status.
-ghost use Rattle.std.specs.Prelude.{◌≡◌, ◌⊎◌, ◌≤◌, ◌||◌, length, true};
+ghost use Rattle.std.specs.Prelude.{◌≡◌, ◌⊎◌, ◌≤◌, ◌||◌, List, length, true};
 ghost use Rattle.outer_traits.specs.Faults.{Rose};
 ghost use Rattle.history_keeper.specs.Histories.{IsHistory};
-ghost use Rattle.update_log.specs.CoreFolds.{AllFaults};
+ghost use Rattle.update_log.specs.Pasts.{AllFaults, past_of};
 ghost use Rattle.update_log.specs.Legal.{Legal};
-ghost use Rattle.update_log.specs.Pasts.{past_of};
-ghost use Rattle.update_log.specs.Shows.{Campaign};
+ghost use Rattle.update_log.specs.Known.{basis_of};
+ghost use Rattle.update_log.specs.Shows.{campaign_on};
 ghost use Rattle.report_text.specs.Report.{report};
 ghost use Rattle.command_outputs.specs.Summed.{summary};
-ghost use Rattle.fwupd_service.specs.Ends.{IsLeft, IsReported, WasWritten, ending_status, played_status, written_status};
+ghost use Rattle.fwupd_service.specs.Tops.{IsLeft};
+ghost use Rattle.fwupd_service.specs.Ends.{IsReported, WasWritten, ending_status, played_status, written_status};
 ghost use Rattle.fwupd_service.specs.Telling.{any_fault, any_want};
 ghost use Rattle.client_threads.specs.declared.ending.Ending.TheVariants as endings;
+ghost use Rattle.fw_facts.specs.declared.seen.Seen.{Seen};
+ghost use Rattle.update_log.specs.declared.facts.BootPlan.{BootPlan};
 
 use crate::playing::Played;
 use crate::ran::RunLeft;
 use crate::telling::{any_fault, any_want};
 use client_threads::{Ending, Ran as CampaignRan};
 use command_outputs::{OutputStop, write_summary};
+use fw_base::Listed;
 use history_keeper::Row;
 use outer_traits::Sink;
-use report_text::{ReportStop, write_report};
+use report_text::{ReportStop, write_report_in_place};
 use run_status::Status;
 use std::alloc::Global;
 use update_log::{Event, Facts, Log};
@@ -32,23 +36,24 @@ pub enum Written {
     NoMemory,
 }
 
-/// Writes the report of a legal log.
+/// Writes the report of a legal log, and leaves the rows before it as they are.
 pub(crate) fn write_reported<T: Sink>(
     alloc: Global,
     facts: &Facts,
-    opening: &[Row],
+    opening: &mut Vec<Row>,
     log: &Log,
     out: &mut T,
 ) -> Written
     requires few { length facts.now.sheets ≤ 256 }
-    requires legal { (c : Campaign) × (c.facts ≡ facts.now) × Legal c opening.now log.now }
-    requires history { IsHistory opening.now ⊎ AllFaults (past_of log.now) }
-    ensures written { WasWritten result (report facts.now opening.now log.now) (T.taken out.old) (T.taken out.new) }
+    requires legal { (first : List Seen) × (plans : List BootPlan) × Legal (campaign_on (basis_of facts.now opening.old.items) first plans) log.now }
+    requires history { IsHistory opening.old.items ⊎ AllFaults (past_of log.now) }
+    ensures written { WasWritten result (report (basis_of facts.now opening.old.items) log.now) (T.taken out.old) (T.taken out.new) }
+    ensures rows { opening.new.items ≡ opening.old.items }
     ensures cause { result ≡ Written.SinkFault → Rose (T.faults out.old) (T.faults out.new) }
     ensures quiet { (result ≡ Written.SinkFault) ⊎ (T.faults out.new ≡ T.faults out.old) }
     ensures counts { T.faults out.old ≤ T.faults out.new }
 {
-    match write_report(alloc, facts, opening, log, out) {
+    match write_report_in_place(alloc, facts, opening, log, out) {
         Ok(()) => Written::Whole,
         Err(ReportStop::SinkFault) => Written::SinkFault,
         Err(ReportStop::NoMemory) => Written::NoMemory,
@@ -123,11 +128,13 @@ pub(crate) fn reported<P, K, T: Sink>(
     out: &mut T,
 ) -> RunLeft<P, K>
     requires few { length played.facts.sheets ≤ 256 }
-    requires legal { (c : Campaign) × (c.facts ≡ played.facts) × Legal c played.opening played.log }
+    requires legal { (first : List Seen) × (plans : List BootPlan) × Legal (campaign_on (basis_of played.facts played.opening) first plans) played.log }
     requires history { IsHistory played.opening ⊎ AllFaults (past_of played.log) }
     ensures reported { IsReported result.status played.ran.ending played.ran.wanting played.log
-        (report played.facts played.opening played.log) (T.taken out.old) (T.taken out.new) }
-    ensures left { IsLeft played.log played.opening played.boards played.keeper shelves.items result.log result.opening result.boards result.keeper result.shelves.items }
+        (report (basis_of played.facts played.opening) played.log) (T.taken out.old) (T.taken out.new) }
+    ensures left { IsLeft played.log played.opening played.boards played.keeper
+        (record { log = result.log; opening = result.opening; boards = result.boards; keeper = result.keeper }) }
+    ensures shelves { result.shelves.items ≡ shelves.items }
     ensures sink_fault { result.status ≡ Status.SinkFault → Rose (T.faults out.old) (T.faults out.new) }
     ensures sink_quiet { (result.status ≡ Status.SinkFault) ⊎ (T.faults out.new ≡ T.faults out.old) }
     ensures sink_counts { T.faults out.old ≤ T.faults out.new }
@@ -140,11 +147,12 @@ pub(crate) fn reported<P, K, T: Sink>(
         keeper,
         opening,
     } = played;
-    let written = write_reported(alloc, &facts, opening.items(), &log, out);
+    let mut rows = opening.into_items();
+    let written = write_reported(alloc, &facts, &mut rows, &log, out);
     RunLeft {
         status: status_of(written, &ran, &log),
         log,
-        opening,
+        opening: Listed::of(rows),
         boards: Some(boards),
         keeper,
         shelves,

@@ -1,14 +1,15 @@
 //! The command `run`: the campaign of a document.
 ghost use Rattle.std.specs.Prelude.{◌≡◌, ◌⊎◌, ◌≤◌, length, None, Some};
 ghost use Rattle.outer_traits.specs.Faults.{Rose};
+ghost use Rattle.history_keeper.specs.Signs.{signs_of};
 ghost use Rattle.client_plays.specs.Tools.{ShelvesStay};
 ghost use Rattle.client_plays.specs.Has.{shelves_told};
 ghost use Rattle.report_text.specs.Report.{report};
 ghost use Rattle.fwupd_service.specs.Begins.{CanBePlayed, IsReadyFor};
 ghost use Rattle.fwupd_service.specs.Plugged.{plugins_of};
 ghost use Rattle.fwupd_service.specs.Tops.{CampaignWent, RunEnds, stop_status};
-ghost use Rattle.fwupd_service.specs.Worlds.{keeper_signs};
 ghost use Rattle.plugin_trait.specs.Steps.{steps_at};
+ghost use Rattle.update_log.specs.Known.{basis_of};
 
 use crate::playing::play;
 use crate::ran::RunLeft;
@@ -43,7 +44,7 @@ pub(crate) fn run<
 ) -> RunLeft<P, K>
     requires few_plugins { length plugins.items ≤ 64 }
     requires no_doubt { K.doubt keeper ≡ None }
-    ensures ends { RunEnds (keeper_signs K.tells K.doubt K.faults)
+    ensures ends { RunEnds (signs_of K.tells K.doubt K.faults)
         (plugins_of (λ p. own_sheet p) (λ p. vetoes_on p) (λ p. own_vetoes p) (λ p. steps p) plugins.items) result.status keeper
         (record { log = result.log; opening = result.opening; boards = result.boards; keeper = result.keeper })
         (record { shelves = shelves_told P.files P.faults shelves.items; unread = S.left source.old; written = T.taken out.old })
@@ -106,9 +107,9 @@ pub(crate) fn run_ready<
     requires ready { CanBePlayed campaign }
     requires shelves { IsReadyFor (length shelves.items) (length plugins.items) campaign }
     requires no_doubt { K.doubt keeper ≡ None }
-    ensures went { CampaignWent (keeper_signs K.tells K.doubt K.faults) (steps_at (λ p. steps p) plugins.items) result.status campaign keeper
+    ensures went { CampaignWent (signs_of K.tells K.doubt K.faults) (steps_at (λ p. steps p) plugins.items) result.status campaign keeper
         (record { log = result.log; opening = result.opening; boards = result.boards; keeper = result.keeper })
-        (report campaign.facts result.opening result.log)
+        (report (basis_of campaign.facts result.opening) result.log)
         (record { shelves = shelves_told P.files P.faults shelves.items; written = T.taken out.old })
         (record { shelves = shelves_told P.files P.faults result.shelves.items; written = T.taken out.new }) }
     ensures sink_fault { result.status ≡ Status.SinkFault → Rose (T.faults out.old) (T.faults out.new) }

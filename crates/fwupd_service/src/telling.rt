@@ -4,7 +4,8 @@ ghost use Rattle.std.specs.List.{list_any};
 ghost use Rattle.update_log.specs.Pasts.{meets_fault};
 ghost use Rattle.fwupd_service.specs.Telling.{is_want, tells_want};
 
-use update_log::{Event, Stored, meets_fault};
+use core_state::meets_fault;
+use update_log::{Event, Stored};
 
 /// Whether an event of the log met a fault of the keeper.
 pub fn any_fault(log: &[Event]) -> bool

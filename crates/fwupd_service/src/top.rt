@@ -1,13 +1,13 @@
 //! The top call.
 ghost use Rattle.std.specs.Prelude.{◌≡◌, ◌⊎◌, ◌↔◌, ◌≤◌, length, map, None, Some};
 ghost use Rattle.outer_traits.specs.Faults.{Rose};
+ghost use Rattle.history_keeper.specs.Signs.{signs_of};
 ghost use Rattle.client_plays.specs.Tools.{ShelvesStay};
 ghost use Rattle.client_plays.specs.Has.{shelves_told};
 ghost use Rattle.command_words.specs.Commands.{command_of};
 ghost use Rattle.fwupd_service.specs.Commands.{CommandEnds, CommandFits, KeepsShelves, WordsEnd};
 ghost use Rattle.fwupd_service.specs.Plugged.{plugins_of};
 ghost use Rattle.fwupd_service.specs.Reported.{FaultTold, KeepsMarks, MarksTold};
-ghost use Rattle.fwupd_service.specs.Worlds.{keeper_signs};
 ghost use Rattle.report_queue.specs.Marking.{OverTold};
 
 use crate::make::make;
@@ -60,7 +60,7 @@ pub fn run_campaign<
     requires no_doubt { K.doubt keeper ≡ None }
     // What the words make of it: the status, and under each what came, what is true of the log and the boards
     // that are returned, how the keeper and the shelves stand to them, and what was written.
-    ensures ends { WordsEnd (keeper_signs K.tells K.doubt K.faults)
+    ensures ends { WordsEnd (signs_of K.tells K.doubt K.faults)
         (plugins_of (λ p. own_sheet p) (λ p. vetoes_on p) (λ p. own_vetoes p) (λ p. steps p) plugins.items)
         (command_of (map (λ word. word.now) words.now)) result.status keeper
         (record { log = result.log; opening = result.opening; boards = result.boards; keeper = result.keeper })
@@ -121,7 +121,7 @@ fn obey<
     requires fits { CommandFits command.now }
     requires few_plugins { length plugins.items ≤ 64 }
     requires no_doubt { K.doubt keeper ≡ None }
-    ensures ends { CommandEnds (keeper_signs K.tells K.doubt K.faults)
+    ensures ends { CommandEnds (signs_of K.tells K.doubt K.faults)
         (plugins_of (λ p. own_sheet p) (λ p. vetoes_on p) (λ p. own_vetoes p) (λ p. steps p) plugins.items)
         command.now result.status keeper
         (record { log = result.log; opening = result.opening; boards = result.boards; keeper = result.keeper })

@@ -1,6 +1,7 @@
 //! The command `update`: the planned installs, made in the document's first boot.
 ghost use Rattle.std.specs.Prelude.{◌≡◌, ◌⊎◌, ◌≤◌, length, None};
 ghost use Rattle.outer_traits.specs.Faults.{Rose};
+ghost use Rattle.history_keeper.specs.Signs.{signs_of};
 ghost use Rattle.client_plays.specs.Tools.{ShelvesStay};
 ghost use Rattle.client_plays.specs.Has.{shelves_told};
 ghost use Rattle.campaign_inputs.specs.Begin.{CanBegin};
@@ -8,7 +9,6 @@ ghost use Rattle.update_plans.specs.Tags.{IsTag};
 ghost use Rattle.fwupd_service.specs.Begins.{CanBePlayed, IsReadyFor};
 ghost use Rattle.fwupd_service.specs.Plugged.{plugins_of};
 ghost use Rattle.fwupd_service.specs.Updates.{UpdateEnds, UpdateGoes};
-ghost use Rattle.fwupd_service.specs.Worlds.{keeper_signs};
 ghost use Rattle.plugin_trait.specs.Steps.{steps_at};
 
 use crate::loading::{Loaded, load, load_status};
@@ -49,7 +49,7 @@ pub(crate) fn update<
     requires few_plugins { length plugins.items ≤ 64 }
     requires no_doubt { K.doubt keeper ≡ None }
     requires tag { IsTag tag }
-    ensures ends { UpdateEnds (keeper_signs K.tells K.doubt K.faults)
+    ensures ends { UpdateEnds (signs_of K.tells K.doubt K.faults)
         (plugins_of (λ p. own_sheet p) (λ p. vetoes_on p) (λ p. own_vetoes p) (λ p. steps p) plugins.items) tag result.status keeper
         (record { log = result.log; opening = result.opening; boards = result.boards; keeper = result.keeper })
         (record { shelves = shelves_told P.files P.faults shelves.items; unread = S.left source.old; written = T.taken out.old })
@@ -102,7 +102,7 @@ fn update_campaign<
     requires shelves { IsReadyFor (length shelves.items) (length plugins.items) campaign }
     requires no_doubt { K.doubt keeper ≡ None }
     requires tag { IsTag tag }
-    ensures goes { UpdateGoes (keeper_signs K.tells K.doubt K.faults) (steps_at (λ p. steps p) plugins.items) tag campaign result.status keeper
+    ensures goes { UpdateGoes (signs_of K.tells K.doubt K.faults) (steps_at (λ p. steps p) plugins.items) tag campaign result.status keeper
         (record { log = result.log; opening = result.opening; boards = result.boards; keeper = result.keeper })
         (record { shelves = shelves_told P.files P.faults shelves.items; written = T.taken out.old })
         (record { shelves = shelves_told P.files P.faults result.shelves.items; written = T.taken out.new }) }

@@ -4,6 +4,7 @@ use Rattle.std.proofs.lemmas.List.{length-map}
 use mathlib.Core.Path.{fun_ext}
 use Rattle.fw_facts.specs.declared.machine.MachineFacts.{MachineFacts}
 use Rattle.plugin_order.specs.declared.sheet.PluginSheet.{PluginSheet}
+use Rattle.history_keeper.specs.Signs.{KeeperSigns}
 use Rattle.update_log.specs.declared.facts.PluginVetoes.{PluginVetoes}
 use Rattle.client_plays.specs.Tools.{ShelfTold}
 use Rattle.command_words.specs.declared.command.Command.{Command}
@@ -11,7 +12,7 @@ use Rattle.run_status.specs.declared.status.Status.{Status}
 use Rattle.fwupd_service.specs.Commands.{WordsEnd}
 use Rattle.fwupd_service.specs.Plugged.{PluginWords, plugins_with}
 use Rattle.fwupd_service.specs.Tops.{Left}
-use Rattle.fwupd_service.specs.Worlds.{KeeperSigns, World}
+use Rattle.fwupd_service.specs.Worlds.{World}
 use Rattle.host_service.specs.Brought.{AreProgram, program_plugins, program_vetoes}
 
 -- There are four plugins.

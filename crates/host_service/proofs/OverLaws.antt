@@ -1,9 +1,10 @@
 -- What a run makes of the rows that its keeper told as it came, where it told no others.
-use Rattle.std.proofs.Common.{◌≡◌, ◌⊎◌, ℕ, List, [], map, Option, Some, None, inl, inr, subst}
+use Rattle.std.proofs.Common.{◌≡◌, ◌⊎◌, ℕ, List, [], Option, Some, None, refl, inl, inr, ◌∙◌, subst}
 use Rattle.emulated_boards.specs.Boards.{BoardState}
 use Rattle.fw_facts.specs.declared.machine.MachineFacts.{MachineFacts}
 use Rattle.history_keeper.specs.declared.row.Row.{Row}
 use Rattle.history_keeper.specs.Keepers.{StillTold}
+use Rattle.history_keeper.specs.Signs.{KeeperSigns}
 use Rattle.plugin_order.specs.declared.sheet.PluginSheet.{PluginSheet}
 use Rattle.plugin_trait.specs.Steps.{PluginSteps}
 use Rattle.update_log.specs.declared.facts.PluginVetoes.{PluginVetoes}
@@ -12,26 +13,24 @@ use Rattle.update_log.specs.Pasts.{past_of}
 use Rattle.update_log.specs.Shows.{Campaign as Played}
 use Rattle.command_words.specs.declared.command.Command.{Command}
 use Rattle.command_words.specs.declared.command.Command.TheVariants as commands
-use Rattle.daemon_core.specs.House.{shown_by}
 use Rattle.daemon_core.specs.Keeping.{HasRows, WasReopened}
-use Rattle.client_threads.specs.Planned.{with_plans}
 use Rattle.run_status.specs.declared.status.Status.{Status}
 use Rattle.site_types.specs.declared.campaign.Campaign.{Campaign}
 use Rattle.fwupd_service.specs.declared.loading.LoadStop.{LoadStop}
-use Rattle.fwupd_service.specs.Campaigns.{IsOpening, IsTrueLog, IsUnread, IsUntouched, KeeperStands}
+use Rattle.fwupd_service.specs.Campaigns.{IsOpening, IsTrueLog, IsUnread, IsUntouched, KeeperStands, campaign_over}
 use Rattle.fwupd_service.specs.Commands.{CommandEnds, NothingHappened, WordsEnd}
 use Rattle.fwupd_service.specs.Makes.{MadeOrNothing, MakeEnds}
 use Rattle.fwupd_service.specs.Plugged.{Plugins}
 use Rattle.fwupd_service.specs.Tops.{CampaignWent, Left, NothingBegan, RunEnds}
 use Rattle.fwupd_service.specs.Updates.{OnlyLoaded, PlanEnds, PlanGoes, PlanPlayed, UpdateEnds, UpdateGoes}
-use Rattle.fwupd_service.specs.Worlds.{KeeperSigns, Setting, World}
+use Rattle.fwupd_service.specs.Worlds.{Setting, World}
 use Rattle.host_service.specs.Over.{AreLeft, ArePlayed, NoneTaken, RanOver, WereTaken}
 
 -- ---- a campaign over a keeper
 
 module _ {K : Type 0} (signs : KeeperSigns K) (keeper : K) (left : Left K) (held last : List Row) (only : (all : List Row) → signs.tells keeper all → all ≡ held) (tells : signs.tells left.keeper last) where
   Taken : Played → Type 0
-  Taken c = NoneTaken held last left.opening left.log ⊎ WereTaken c held last left.opening left.log
+  Taken c = NoneTaken held last left.opening left.log ⊎ WereTaken c held last left.log
 
   opened-so : IsOpening (signs.tells keeper) (signs.tells left.keeper) left.opening left.log → (left.opening ≡ []) ⊎ (left.opening ≡ held)
   opened-so (inl a) = inr (only left.opening (a last tells))
@@ -40,9 +39,9 @@ module _ {K : Type 0} (signs : KeeperSigns K) (keeper : K) (left : Left K) (held
   untouched-so : IsOpening (signs.tells keeper) (signs.tells left.keeper) left.opening left.log → IsUntouched signs left.log keeper left.keeper → NoneTaken held last left.opening left.log
   untouched-so o u = record { none = u.none; same = only last (u.told_are last tells); before = opened-so o }
 
-  taken-so : (c : Played) → left.opening ≡ held
-      → HasRows signs.tells signs.doubt left.keeper (rows c.facts left.opening (past_of left.log)) (doubt c.facts left.opening (past_of left.log))
-      ⊎ (IsUnread c left.log × WasReopened signs.tells signs.doubt left.keeper (rows c.facts left.opening (past_of left.log)) (doubt c.facts left.opening (past_of left.log))) → WereTaken c held last left.opening left.log
+  taken-so : (c : Played) → c.basis.opening ≡ held
+      → HasRows signs left.keeper (rows c.basis (past_of left.log)) (doubt c.basis (past_of left.log))
+      ⊎ (IsUnread c left.log × WasReopened signs left.keeper (rows c.basis (past_of left.log)) (doubt c.basis (past_of left.log))) → WereTaken c held last left.log
   taken-so c e (inl h) = record { before = e; behind = inl (h.rows_are last tells) }
   taken-so c e (inr (u, w)) = record {
     before = e;
@@ -52,18 +51,20 @@ module _ {K : Type 0} (signs : KeeperSigns K) (keeper : K) (left : Left K) (held
     ];
   }
 
-  kept-so : (c : Played) → IsOpening (signs.tells keeper) (signs.tells left.keeper) left.opening left.log
+  kept-so : (c : Played) → c.basis.opening ≡ left.opening → IsOpening (signs.tells keeper) (signs.tells left.keeper) left.opening left.log
       → IsUntouched signs left.log keeper left.keeper
-      ⊎ (HasRows signs.tells signs.doubt left.keeper (rows c.facts left.opening (past_of left.log)) (doubt c.facts left.opening (past_of left.log))
-      ⊎ (IsUnread c left.log × WasReopened signs.tells signs.doubt left.keeper (rows c.facts left.opening (past_of left.log)) (doubt c.facts left.opening (past_of left.log)))) → Taken c
+      ⊎ (HasRows signs left.keeper (rows c.basis (past_of left.log)) (doubt c.basis (past_of left.log))
+      ⊎ (IsUnread c left.log × WasReopened signs left.keeper (rows c.basis (past_of left.log)) (doubt c.basis (past_of left.log)))) → Taken c
   unfolding Taken
-  kept-so c o (inl u) = inl (untouched-so o u)
-  kept-so c (inl a) (inr h) = inr (taken-so c (only left.opening (a last tells)) h)
-  kept-so c (inr (e, still, none)) (inr h) = inl (record { none = none; same = only last (still last tells); before = inl e })
+  kept-so c e o (inl u) = inl (untouched-so o u)
+  kept-so c e (inl a) (inr h) = inr (taken-so c (e ∙ only left.opening (a last tells)) h)
+  kept-so c e (inr (no_rows, still, none)) (inr h) = inl (record { none = none; same = only last (still last tells); before = inl no_rows })
 
-  stands-so : (c : Played) (boards : List BoardState) → IsTrueLog c left.opening left.log boards → KeeperStands signs c left.opening left.log keeper left.keeper → ArePlayed held last left.opening left.log
+  stands-so : (c : Played) (boards : List BoardState) → c.basis.opening ≡ left.opening → IsTrueLog c left.log boards → KeeperStands signs c left.log keeper left.keeper → ArePlayed held last left.opening left.log
   unfolding Taken
-  stands-so c boards t k = record { campaign = c; boards = boards; true_log = t; taken = kept-so c k.opening_is k.keeps }
+  stands-so c boards e t k =
+      let opened = subst (λ (rows : List Row). IsOpening (signs.tells keeper) (signs.tells left.keeper) rows left.log) e k.opening_is in
+      record { campaign = c; opening_is = e; boards = boards; true_log = t; taken = kept-so c e opened k.keeps }
 
   same-so : left.log ≡ [] → StillTold (signs.tells keeper) (signs.tells left.keeper) → AreLeft held last left.log
   same-so e still = record { nothing = e; same = only last (still last tells) }
@@ -83,7 +84,7 @@ module _ {K : Type 0} (signs : KeeperSigns K) (keeper : K) (left : Left K) (held
   went-so : (work : ℕ → PluginSteps) (status : Status) (campaign : Campaign) (text : List ℕ) (before after : Setting)
       → CampaignWent signs work status campaign keeper left text before after → AreLeft held last left.log ⊎ ArePlayed held last left.opening left.log
   went-so work status campaign text before after (inl t) =
-      inr (stands-so (with_plans campaign.facts (map shown_by campaign.boards.items) campaign.boots) t.boards t.true_log t.keeper_stands)
+      inr (stands-so (campaign_over campaign left.opening) t.boards refl t.true_log t.keeper_stands)
   went-so work status campaign text before after (inr n) = inl (began-so n.1)
 
 -- ---- the commands

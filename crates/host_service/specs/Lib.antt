@@ -1,2 +1,3 @@
 pub mod Brought
 pub mod Over
+pub use Rattle.history_keeper.specs.Signs

@@ -4,11 +4,11 @@ ghost use Rattle.outer_traits.specs.Faults.{Rose};
 ghost use Rattle.client_plays.specs.Has.{shelves_told};
 ghost use Rattle.command_words.specs.Commands.{command_of};
 ghost use Rattle.history_keeper.specs.declared.row.Row.{Row};
+ghost use Rattle.history_keeper.specs.Signs.{signs_of};
 ghost use Rattle.history_sqlite.specs.Opened.{StartHolds};
 ghost use Rattle.fwupd_service.specs.Commands.{WordsEnd};
 ghost use Rattle.fwupd_service.specs.Plugged.{plugin_words};
 ghost use Rattle.fwupd_service.specs.Reported.{KeepsMarks};
-ghost use Rattle.fwupd_service.specs.Worlds.{keeper_signs};
 ghost use Rattle.site_making.specs.Settled.{vetoes_of};
 ghost use Rattle.host_service.specs.Brought.{AreProgram, folder_shelves, program_plugins};
 ghost use Rattle.host_service.specs.Over.{RanOver, WasOpened};
@@ -80,7 +80,7 @@ pub fn run_over_file<
 ) -> Result<Ran<FolderShelf<HostRuntime>, K, M>, KeeperRefusal>
     requires { AreProgram (map (λ p. own_sheet p) plugins.items) (λ machine. map (λ p. vetoes_of (own_sheet p) (vetoes_on p machine)) plugins.items) }
     ensures over { IfOk result (λ ran. (held : List Row) → K.held held → (left : List Row) → K.tells ran.keeper left → RanOver (command_of (map (λ word. word.now) words.now)) held left ran.opening ran.log) }
-    ensures ends { IfOk result (λ ran. (keeper : K) × WasOpened K.held K.tells K.doubt keeper × WordsEnd (keeper_signs K.tells K.doubt K.faults)
+    ensures ends { IfOk result (λ ran. (keeper : K) × WasOpened K.held (signs_of K.tells K.doubt K.faults) keeper × WordsEnd (signs_of K.tells K.doubt K.faults)
         (program_plugins (plugin_words (λ p. own_sheet p) (λ p. own_vetoes p) (λ p. steps p)))
         (command_of (map (λ word. word.now) words.now)) ran.status keeper
         (record { log = ran.log; opening = ran.opening; boards = ran.boards; keeper = ran.keeper })

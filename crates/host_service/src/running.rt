@@ -1,13 +1,13 @@
 //! The top call over what the program brings.
 ghost use Rattle.std.specs.Prelude.{◌≡◌, ◌⊎◌, ◌≤◌, None, IfOk, map};
 ghost use Rattle.outer_traits.specs.Faults.{Rose};
+ghost use Rattle.history_keeper.specs.Signs.{signs_of};
 ghost use Rattle.client_plays.specs.Has.{shelves_told};
 ghost use Rattle.command_words.specs.Commands.{command_of};
 ghost use Rattle.report_queue.specs.Marking.{OverTold};
 ghost use Rattle.fwupd_service.specs.Commands.{WordsEnd};
 ghost use Rattle.fwupd_service.specs.Plugged.{plugin_words};
 ghost use Rattle.fwupd_service.specs.Reported.{FaultTold, KeepsMarks, MarksTold};
-ghost use Rattle.fwupd_service.specs.Worlds.{keeper_signs};
 ghost use Rattle.site_making.specs.Settled.{vetoes_of};
 ghost use Rattle.host_service.specs.Brought.{AreProgram, folder_shelves, program_plugins};
 
@@ -45,7 +45,7 @@ pub fn run_over_folder<
 ) -> Result<Ran<FolderShelf<HostRuntime>, K, M>, NoMemory>
     requires four { AreProgram (map (λ p. own_sheet p) plugins.items) (λ machine. map (λ p. vetoes_of (own_sheet p) (vetoes_on p machine)) plugins.items) }
     requires no_doubt { K.doubt keeper ≡ None }
-    ensures ends { IfOk result (λ ran. WordsEnd (keeper_signs K.tells K.doubt K.faults)
+    ensures ends { IfOk result (λ ran. WordsEnd (signs_of K.tells K.doubt K.faults)
         (program_plugins (plugin_words (λ p. own_sheet p) (λ p. own_vetoes p) (λ p. steps p)))
         (command_of (map (λ word. word.now) words.now)) ran.status keeper
         (record { log = ran.log; opening = ran.opening; boards = ran.boards; keeper = ran.keeper })

@@ -13,7 +13,7 @@ use Rattle.update_log.specs.declared.live.LiveEntry.{LiveEntry}
 use Rattle.update_log.specs.declared.trace.Trace.{Trace}
 use Rattle.update_log.specs.Boards.{Board, board_with, devices}
 use Rattle.update_log.specs.Holding.{live}
-use Rattle.update_log.specs.Known.{Known, board_of, known, row_of, rows, view_of, views, views_in}
+use Rattle.update_log.specs.Known.{Basis, Known, board_of, known, row_of, rows, view_of, views, views_in}
 use Rattle.update_log.specs.Steps.{closing, closing_at, closing_of, next_step, trace, view_of_row}
 use Rattle.daemon_core.specs.Finishes.{IsDone}
 use Rattle.device_claims.specs.declared.claim.Parts.{Parts}
@@ -41,21 +41,21 @@ board-row facts all entry number e = at (row_of all entry) refl e
     at (Some row) f e = (row, f, e)
 
 -- So an entry that has a trace and a board ends in some state.
-pub closes : (facts : Facts) (opening : List Row) (past : List Event) (entry number : ℕ) (t : Trace) → board_of facts (rows facts opening past) entry ≡ Some number → trace facts opening entry past ≡ Some t → (closed : RowState) × (closing facts opening past entry ≡ Some closed)
-closes facts opening past entry number t e h =
-    let r = board-row facts (rows facts opening past) entry number e in
-    let v = device-view facts (live past) (known facts opening past) r.0 number r.2 in (
+pub closes : (basis : Basis) (past : List Event) (entry number : ℕ) (t : Trace) → board_of basis.facts (rows basis past) entry ≡ Some number → trace basis entry past ≡ Some t → (closed : RowState) × (closing basis past entry ≡ Some closed)
+closes basis past entry number t e h =
+    let r = board-row basis.facts (rows basis past) entry number e in
+    let v = device-view basis.facts (live past) (known basis past) r.0 number r.2 in (
       closing_of t r.0 v.0,
-      ap (λ (o : Option Trace). option_and_then (λ t. option_and_then (closing_at (views facts opening past) t) (row_of (rows facts opening past) entry)) o) h
-          ∙ ap (λ (o : Option Row). option_and_then (closing_at (views facts opening past) t) o) r.1
+      ap (λ (o : Option Trace). option_and_then (λ t. option_and_then (closing_at (views basis past) t) (row_of (rows basis past) entry)) o) h
+          ∙ ap (λ (o : Option Row). option_and_then (closing_at (views basis past) t) o) r.1
           ∙ ap (λ (o : Option DeviceView). option_map (closing_of t r.0) o) v.1,
     )
 
 -- Without a next step a claim is done.
-pub claim-done : (facts : Facts) (first : List Seen) (opening : List Row) (past : List Event) (client : ℕ) (parts : Parts) (number : ℕ) (l : LiveEntry) → ClaimRuns facts first opening past client parts number l None → next_step parts.trace ≡ None
-    → (closed : RowState) × IsDone facts opening past parts.entry closed
-claim-done facts first opening past client parts number l k n =
-    let c = closes facts opening past parts.entry number parts.trace k.board_is k.traced in (
+pub claim-done : (basis : Basis) (first : List Seen) (past : List Event) (client : ℕ) (parts : Parts) (number : ℕ) (l : LiveEntry) → ClaimRuns basis first past client parts number l None → next_step parts.trace ≡ None
+    → (closed : RowState) × IsDone basis past parts.entry closed
+claim-done basis first past client parts number l k n =
+    let c = closes basis past parts.entry number parts.trace k.board_is k.traced in (
       c.0,
       record {
         closed_none = k.open_is;

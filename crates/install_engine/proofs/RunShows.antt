@@ -19,13 +19,11 @@ use Rattle.emulated_boards.specs.declared.fault.BoardFault.{BoardFault}
 use Rattle.emulated_boards.specs.declared.image.Image.{Image}
 use Rattle.emulated_boards.specs.declared.mark.Mark.{Mark}
 use Rattle.plugin_trait.specs.Steps.{IsAway, KeepsRules}
-use Rattle.history_keeper.specs.declared.row.Row.{Row}
 use Rattle.update_log.proofs.WorkedLogs.{same-raw, same-mode}
 use Rattle.update_log.specs.declared.event.Event.{Event}
 use Rattle.update_log.specs.declared.event.Op.{Op}
-use Rattle.update_log.specs.declared.facts.Facts.{Facts}
 use Rattle.update_log.specs.Holding.{live}
-use Rattle.update_log.specs.Known.{known, seen, tells}
+use Rattle.update_log.specs.Known.{Basis, known, seen, tells}
 use Rattle.update_log.specs.Once.{ShowsFirst}
 use Rattle.update_log.specs.Shows.{EndShows, HasMode, HasRaw, IsWritten, ModeAllowed, RawAllowed, began_since, first_of_board, home_before, home_or, is_alike, is_began, is_entered, is_left, raw_of, told}
 use Rattle.install_engine.specs.Runs.{StandsOut, number_of_image}
@@ -138,17 +136,17 @@ before-at (Some Seen.Gone) older shown raw mode e h = let bad : Seen.Gone ≡ Se
 before-at (Some Seen.Stranger) older shown raw mode e h = let bad : Seen.Stranger ≡ Seen.Home raw mode = e in cc
 before-at None older shown raw mode e h = h e
 
-pub seen-home : (facts : Facts) (first : List Seen) (opening : List Row) (past : List Event) (number raw : ℕ) (mode : Mode) → seen facts opening past number ≡ Seen.Home raw mode → home_before facts first opening past number ≡ Seen.Home raw mode
-seen-home facts first opening [] number raw mode e = let bad : Seen.Gone ≡ Seen.Home raw mode = e in cc
-seen-home facts first opening (event ∷ past) number raw mode e =
-    before-at (tells facts (live past) (known facts opening past) event number) (home_before facts first opening past number) (seen facts opening past number) raw mode e
-    (λ s. seen-home facts first opening past number raw mode s)
+pub seen-home : (basis : Basis) (first : List Seen) (past : List Event) (number raw : ℕ) (mode : Mode) → seen basis past number ≡ Seen.Home raw mode → home_before basis first past number ≡ Seen.Home raw mode
+seen-home basis first [] number raw mode e = let bad : Seen.Gone ≡ Seen.Home raw mode = e in cc
+seen-home basis first (event ∷ past) number raw mode e =
+    before-at (tells basis.facts (live past) (known basis past) event number) (home_before basis first past number) (seen basis past number) raw mode e
+    (λ s. seen-home basis first past number raw mode s)
 
 -- ---- behind the step
 
-module _ (facts : Facts) (first : List Seen) (opening : List Row) (past : List Event) (number entry : ℕ) (op : Op) (payload : Image) (ms : List Mark) (old : BoardState) (answer : Result ⊤ BoardFault) (new : BoardState) (g : StepGave op entry payload ms old answer new) (raw : raw_of entry past ≡ Some (number_of_image payload)) (k : StandsOut facts first opening past number old []) where
-  pub journal-left : new.journal ≡ told facts opening past number ++ ms
-  journal-left = g.journal ∙ ap (λ (x : List Mark). x ++ ms) (k.journal ∙ append-nil (told facts opening past number))
+module _ (basis : Basis) (first : List Seen) (past : List Event) (number entry : ℕ) (op : Op) (payload : Image) (ms : List Mark) (old : BoardState) (answer : Result ⊤ BoardFault) (new : BoardState) (g : StepGave op entry payload ms old answer new) (raw : raw_of entry past ≡ Some (number_of_image payload)) (k : StandsOut basis first past number old []) where
+  pub journal-left : new.journal ≡ told basis past number ++ ms
+  journal-left = g.journal ∙ ap (λ (x : List Mark). x ++ ms) (k.journal ∙ append-nil (told basis past number))
 
   unwritten-left : list_any is_began new.journal ≡ false → ShowsFirst (view_of new.condition) (first_of_board first number)
   unwritten-left n =
@@ -164,11 +162,11 @@ module _ (facts : Facts) (first : List Seen) (opening : List Row) (past : List E
           (subst (λ (i : Image). HasRaw (first_of_board first number) (number_of_image i)) (sym same) f)
       at none same (inr a) = first-away (view_of new.condition) (first_of_board first number) (view-away new.condition a)
 
-  image-left : ImageGave entry payload ms old.condition.image new.condition.image → RawAllowed facts first opening past number ms (number_of_image new.condition.image)
-  image-left (inl e) = subst (λ (i : Image). RawAllowed facts first opening past number ms (number_of_image i)) (sym e) (raw-wider facts first opening past number ms (number_of_image old.condition.image) k.image)
-  image-left (inr (inl b)) = inr (inl (ap (λ (o : Option ℕ). unwrap_or o 0) b.0, or_left (list_any is_began ms) (began_since facts first opening past number) b.1))
+  image-left : ImageGave entry payload ms old.condition.image new.condition.image → RawAllowed basis first past number ms (number_of_image new.condition.image)
+  image-left (inl e) = subst (λ (i : Image). RawAllowed basis first past number ms (number_of_image i)) (sym e) (raw-wider basis first past number ms (number_of_image old.condition.image) k.image)
+  image-left (inr (inl b)) = inr (inl (ap (λ (o : Option ℕ). unwrap_or o 0) b.0, or_left (list_any is_began ms) (began_since basis first past number) b.1))
   image-left (inr (inr w)) =
-      inr (inr (entry, payload.digest, Contains-append_right (told facts opening past number) ms (Mark.Ended entry payload.digest) w.1.ended, raw ∙ ap (λ (i : Image). Some (number_of_image i)) (sym w.0)))
+      inr (inr (entry, payload.digest, Contains-append_right (told basis past number) ms (Mark.Ended entry payload.digest) w.1.ended, raw ∙ ap (λ (i : Image). Some (number_of_image i)) (sym w.0)))
 
   staged-left : StagedGave entry payload ms old.condition.staged new.condition.staged → (image : Image) → new.condition.staged ≡ Some image → IsWritten past new.journal (number_of_image image)
   staged-left (inl same) image e =
@@ -179,7 +177,7 @@ module _ (facts : Facts) (first : List Seen) (opening : List Row) (past : List E
       (entry, payload.digest, subst (λ (x : List Mark). Contains x (Mark.Ended entry payload.digest)) (sym g.journal) (Contains-append_right old.journal ms (Mark.Ended entry payload.digest) w.1.ended), raw ∙ ap (λ (i : Image). Some (number_of_image i)) same)
 
   -- Behind the step the board stands to the log, with the step's marks as its tail.
-  pub stands-left : StandsOut facts first opening past number new ms
+  pub stands-left : StandsOut basis first past number new ms
   stands-left =
       record {
         journal = journal-left;
@@ -189,33 +187,33 @@ module _ (facts : Facts) (first : List Seen) (opening : List Row) (past : List E
         faults = (let f = faults-grow old new answer g.rules.well g.rules.failed in let o = k.faults in omega (arith, f, o));
       }
 
-  module _ (shown : view_of old.condition ≡ seen facts opening past number) where
+  module _ (shown : view_of old.condition ≡ seen basis past number) where
     -- Where it is home now, it was last shown at home as it was.
-    before-left : new.condition.presence ≡ present.Home → seen facts opening past number ≡ Seen.Home (number_of_image old.condition.image) old.condition.mode
+    before-left : new.condition.presence ≡ present.Home → seen basis past number ≡ Seen.Home (number_of_image old.condition.image) old.condition.mode
     before-left h = sym shown ∙ view-home old.condition (home-stays old new answer g.rules h)
 
-    mode-left : (r : ℕ) (mode : Mode) → view_of new.condition ≡ Seen.Home r mode → ModeAllowed ms (home_before facts first opening past number) mode
+    mode-left : (r : ℕ) (mode : Mode) → view_of new.condition ≡ Seen.Home r mode → ModeAllowed ms (home_before basis first past number) mode
     mode-left r mode e =
         let s = shows-itself new.condition r mode e in
-        let b : home_before facts first opening past number ≡ Seen.Home (number_of_image old.condition.image) old.condition.mode =
-        seen-home facts first opening past number (number_of_image old.condition.image) old.condition.mode (before-left s.home) in
-        mode-map (list_any is_entered ms) (list_any is_left ms) (list_any is_began ms) old.condition.mode mode (home_before facts first opening past number) (number_of_image old.condition.image) b
+        let b : home_before basis first past number ≡ Seen.Home (number_of_image old.condition.image) old.condition.mode =
+        seen-home basis first past number (number_of_image old.condition.image) old.condition.mode (before-left s.home) in
+        mode-map (list_any is_entered ms) (list_any is_left ms) (list_any is_began ms) old.condition.mode mode (home_before basis first past number) (number_of_image old.condition.image) b
         (subst (λ (m : Mode). ModeGave ms old.condition.mode m) s.mode_is g.mode)
 
-    alike-left : (a : Result ⊤ BoardFault) → KeepsRules old a new → OnOk a (IsTrue (is_alike (seen facts opening past number) (view_of new.condition)))
+    alike-left : (a : Result ⊤ BoardFault) → KeepsRules old a new → OnOk a (IsTrue (is_alike (seen basis past number) (view_of new.condition)))
     alike-left (Ok u) r = subst (λ (x : Seen). is_alike x (view_of new.condition) ≡ true) shown (alike-present old.condition new.condition (well-present old new u r))
     alike-left (Err fault) r = tt
 
     -- What it shows then may be shown at the step's end.
-    pub end-shows : EndShows facts first opening past number ms answer (view_of new.condition)
+    pub end-shows : EndShows basis first past number ms answer (view_of new.condition)
     end-shows =
         record {
           stays = alike-left answer g.rules;
           home = home-shown (home-or_away new.condition.presence);
-          raw = λ r mode e. let s = shows-itself new.condition r mode e in subst (λ (n : ℕ). RawAllowed facts first opening past number ms n) s.raw_is (image-left g.image);
+          raw = λ r mode e. let s = shows-itself new.condition r mode e in subst (λ (n : ℕ). RawAllowed basis first past number ms n) s.raw_is (image-left g.image);
           mode = mode-left;
         }
       where
-        home-shown : (new.condition.presence ≡ present.Home) ⊎ IsAway new.condition.presence → IsTrue (is_home (view_of new.condition)) → IsTrue (is_home (seen facts opening past number))
+        home-shown : (new.condition.presence ≡ present.Home) ⊎ IsAway new.condition.presence → IsTrue (is_home (view_of new.condition)) → IsTrue (is_home (seen basis past number))
         home-shown (inl h) t = ap is_home (before-left h)
         home-shown (inr a) t = let bad : false ≡ true = sym (view-away new.condition a) ∙ t in cc

@@ -6,11 +6,10 @@ use Rattle.history_keeper.specs.Histories.{IsHistory}
 use Rattle.history_keeper.specs.declared.row.Row.{Row}
 use Rattle.update_log.specs.declared.event.Event.{Event}
 use Rattle.update_log.specs.declared.event.Op.{Op}
-use Rattle.update_log.specs.declared.facts.Facts.{Facts}
 use Rattle.update_log.specs.declared.live.LiveEntry.{LiveEntry}
 use Rattle.update_log.specs.Boards.{board_with}
 use Rattle.update_log.specs.Holding.{live_entry, step_open}
-use Rattle.update_log.specs.Known.{board_of, row_of, rows}
+use Rattle.update_log.specs.Known.{Basis, board_of, row_of, rows}
 use Rattle.update_log.specs.Steps.{trace}
 use Rattle.daemon_core.proofs.ClaimEnds.{own-board}
 use Rattle.daemon_core.proofs.PlacesKept.{SameOfBoard}
@@ -22,21 +21,21 @@ use Rattle.install_engine.proofs.RunBoards.{SameOut, out-same}
 use Rattle.install_engine.proofs.RunTaken.{alone-so}
 
 -- Two pasts say the same of a live entry, and of its board.
-pub record SameRun (facts : Facts) (first : List Seen) (opening : List Row) (past other : List Event) (entry number : ℕ) (l : LiveEntry) : Type 0 where
+pub record SameRun (basis : Basis) (first : List Seen) (past other : List Event) (entry number : ℕ) (l : LiveEntry) : Type 0 where
   pub live : live_entry other entry ≡ Some l
   pub step : step_open other entry ≡ step_open past entry
-  pub traced : trace facts opening entry other ≡ trace facts opening entry past
-  pub row : row_of (rows facts opening other) entry ≡ row_of (rows facts opening past) entry
-  pub board : SameOfBoard facts first opening past other number
+  pub traced : trace basis entry other ≡ trace basis entry past
+  pub row : row_of (rows basis other) entry ≡ row_of (rows basis past) entry
+  pub board : SameOfBoard basis first past other number
 
-out-of : (facts : Facts) (first : List Seen) (opening : List Row) (past other : List Event) (number : ℕ) → SameOfBoard facts first opening past other number → SameOut facts first opening past other number
-out-of facts first opening past other number s = record { told_same = s.told; before = s.before; began = s.began; raws = s.raws; faults = s.faults }
+out-of : (basis : Basis) (first : List Seen) (past other : List Event) (number : ℕ) → SameOfBoard basis first past other number → SameOut basis first past other number
+out-of basis first past other number s = record { told_same = s.told; before = s.before; began = s.began; raws = s.raws; faults = s.faults }
 
 -- So what is known of a claim stays.
-pub claim-stays : (facts : Facts) (first : List Seen) (opening : List Row) (past other : List Event) (client : ℕ) (parts : Parts) (number : ℕ) (l : LiveEntry) (running : Option Op) → IsHistory opening → IsLegalSo facts first opening other
-    → SameRun facts first opening past other parts.entry number l → ClaimRuns facts first opening past client parts number l running → ClaimRuns facts first opening other client parts number l running
-claim-stays facts first opening past other client parts number l running valid legal s k =
-    let board : board_of facts (rows facts opening other) parts.entry ≡ Some number = ap (λ (o : Option Row). option_and_then (λ r. board_with facts r.device) o) s.row ∙ k.board_is in
+pub claim-stays : (basis : Basis) (first : List Seen) (past other : List Event) (client : ℕ) (parts : Parts) (number : ℕ) (l : LiveEntry) (running : Option Op) → IsHistory basis.opening → IsLegalSo basis first other
+    → SameRun basis first past other parts.entry number l → ClaimRuns basis first past client parts number l running → ClaimRuns basis first other client parts number l running
+claim-stays basis first past other client parts number l running valid legal s k =
+    let board : board_of basis.facts (rows basis other) parts.entry ≡ Some number = ap (λ (o : Option Row). option_and_then (λ r. board_with basis.facts r.device) o) s.row ∙ k.board_is in
     record {
       live = s.live;
       client_is = k.client_is;
@@ -44,8 +43,8 @@ claim-stays facts first opening past other client parts number l running valid l
       open_is = s.step ∙ k.open_is;
       board_is = board;
       opened = s.board.opened ∙ k.opened;
-      alone = λ on. alone-so facts first opening other parts.entry number l valid legal on s.live (own-board facts (rows facts opening other) parts.entry number board);
-      stands = out-same facts first opening past other number parts.board [] (out-of facts first opening past other number s.board) k.stands;
+      alone = λ on. alone-so basis first other parts.entry number l valid legal on s.live (own-board basis.facts (rows basis other) parts.entry number board);
+      stands = out-same basis first past other number parts.board [] (out-of basis first past other number s.board) k.stands;
       shown = k.shown ∙ sym s.board.seen;
       traced = s.traced ∙ k.traced;
       digest = ap (λ (o : Option Row). unwrap_or (option_map (λ r. r.digest) o) []) s.row ∙ k.digest;

@@ -17,18 +17,17 @@ use Rattle.update_log.specs.declared.answer.ClaimAnswer.{ClaimAnswer}
 use Rattle.update_log.specs.declared.answer.ResumeAnswer.{ResumeAnswer}
 use Rattle.update_log.specs.declared.event.Event.{Event}
 use Rattle.update_log.specs.declared.event.Stored.{Stored}
-use Rattle.update_log.specs.declared.facts.Facts.{Facts}
 use Rattle.update_log.specs.declared.live.LiveEntry.{LiveEntry}
 use Rattle.update_log.specs.declared.live.OpenStep.{OpenStep}
 use Rattle.update_log.specs.declared.refusal.FetchNote.{FetchNote}
 use Rattle.update_log.specs.declared.request.Request.{Request}
 use Rattle.release_catalogue.specs.Lookup.{Chosen}
 use Rattle.update_log.specs.Holding.{is_live, live, live_entry, open_steps}
-use Rattle.update_log.specs.Known.{is_board_of, row_of, rows}
+use Rattle.update_log.specs.Known.{Basis, is_board_of, row_of, rows}
 use Rattle.update_log.specs.Legal.{IsLegal, is_whole}
 use Rattle.update_log.specs.Once.{TakenBy, payload_taken, takes}
 use Rattle.update_log.specs.Pasts.{boots, off}
-use Rattle.update_log.specs.Shows.{Campaign, digest_of, raw_of}
+use Rattle.update_log.specs.Shows.{campaign_on, Campaign, digest_of, raw_of}
 use Rattle.daemon_core.proofs.BoardsQuiet.{kept-so}
 use Rattle.daemon_core.proofs.ClaimAlone.{alone-on}
 use Rattle.daemon_core.proofs.ClaimEnds.{own-board}
@@ -43,24 +42,23 @@ use Rattle.install_engine.proofs.RunSteps.{open-own}
 
 -- ---- no other entry has a step open on the board
 
-alone-in : (c : Campaign) (opening : List Row) (past : List Event) (entry number : ℕ) (l : LiveEntry) → IsHistory opening → IsLegal c opening past → off past ≡ false → live_entry past entry ≡ Some l → is_board_of c.facts (rows c.facts opening past) entry number ≡ true
-    → AllByRecursion (IsOwnStep c.facts (rows c.facts opening past) entry number) (open_steps past)
-alone-in c opening past entry number l valid legal on f own =
-    All-map (λ s. is_live (live past) s.entry ≡ true) (IsOwnStep c.facts (rows c.facts opening past) entry number) (open_steps past) (open-live c opening past legal on) each
+alone-in : (c : Campaign) (past : List Event) (entry number : ℕ) (l : LiveEntry) → IsHistory c.basis.opening → IsLegal c past → off past ≡ false → live_entry past entry ≡ Some l → is_board_of c.basis.facts (rows c.basis past) entry number ≡ true
+    → AllByRecursion (IsOwnStep c.basis.facts (rows c.basis past) entry number) (open_steps past)
+alone-in c past entry number l valid legal on f own =
+    All-map (λ s. is_live (live past) s.entry ≡ true) (IsOwnStep c.basis.facts (rows c.basis past) entry number) (open_steps past) (open-live c past legal on) each
   where
-    each : (s : OpenStep) → is_live (live past) s.entry ≡ true → IsOwnStep c.facts (rows c.facts opening past) entry number s
+    each : (s : OpenStep) → is_live (live past) s.entry ≡ true → IsOwnStep c.basis.facts (rows c.basis past) entry number s
     each s h other =
-        by_test (is_board_of c.facts (rows c.facts opening past) s.entry number) _
-        (λ t. absurd (alone-on c opening past number s.entry entry valid legal h (live-found (live past) entry l f) t own
+        by_test (is_board_of c.basis.facts (rows c.basis past) s.entry number) _
+        (λ t. absurd (alone-on c past number s.entry entry valid legal h (live-found (live past) entry l f) t own
         (λ e. let same : (s.entry == entry) ≡ true = ap (λ (x : ℕ). x == entry) e ∙ eqb-self entry in let bad : false ≡ true = sym other ∙ same in cc)))
         (λ t. t)
 
 -- Where the boot isn't off, no other entry has a step open on the board of a live entry.
-pub alone-so : (facts : Facts) (first : List Seen) (opening : List Row) (past : List Event) (entry number : ℕ) (l : LiveEntry) → IsHistory opening → IsLegalSo facts first opening past → off past ≡ false → live_entry past entry ≡ Some l → is_board_of facts (rows facts opening past) entry number ≡ true
-    → AllByRecursion (IsOwnStep facts (rows facts opening past) entry number) (open_steps past)
-alone-so facts first opening past entry number l valid (c, f, s, legal) on live own =
-    subst (λ (x : Facts). is_board_of x (rows x opening past) entry number ≡ true → AllByRecursion (IsOwnStep x (rows x opening past) entry number) (open_steps past)) f
-    (alone-in c opening past entry number l valid legal on live) own
+pub alone-so : (basis : Basis) (first : List Seen) (past : List Event) (entry number : ℕ) (l : LiveEntry) → IsHistory basis.opening → IsLegalSo basis first past → off past ≡ false → live_entry past entry ≡ Some l → is_board_of basis.facts (rows basis past) entry number ≡ true
+    → AllByRecursion (IsOwnStep basis.facts (rows basis past) entry number) (open_steps past)
+alone-so basis first past entry number l valid (plans, legal) on live own =
+    alone-in (campaign_on basis first plans) past entry number l valid legal on live own
 
 -- ---- the payload is the row's
 
@@ -86,10 +84,10 @@ whole-digest payload note c e h =
     let w : is_whole (whole_note payload) c ≡ true = ap (λ (n : FetchNote). is_whole n c) (sym same) ∙ h in
     bytes-same payload.digest c.release.digest (both-true (bytes_eq payload.digest c.release.digest) _ w)
 
-taken-digest : (facts : Facts) (opening : List Row) (past : List Event) (event : Event) (entry : ℕ) (payload : SealedBytes) → TakesWith entry payload event → WasTaken facts opening (event ∷ past) entry → digest_of (rows facts opening (event ∷ past)) entry ≡ payload.digest
-taken-digest facts opening past event entry payload w t =
-    let r = row-found (row_of (rows facts opening (event ∷ past)) entry) t.row t.row_is in
-    let taker : TakenBy facts opening t.row past event = rw w.takes_it at t.taking in
+taken-digest : (basis : Basis) (past : List Event) (event : Event) (entry : ℕ) (payload : SealedBytes) → TakesWith entry payload event → WasTaken basis (event ∷ past) entry → digest_of (rows basis (event ∷ past)) entry ≡ payload.digest
+taken-digest basis past event entry payload w t =
+    let r = row-found (row_of (rows basis (event ∷ past)) entry) t.row t.row_is in
+    let taker : TakenBy basis t.row past event = rw w.takes_it at t.taking in
     let well = taker.3 in
     let d : payload.digest ≡ taker.1.chosen.release.digest = whole-digest payload taker.2 taker.1.chosen (sym well.payload ∙ w.fetched) well.whole in
     ap (λ (o : Option Row). unwrap_or (option_map (λ x. x.digest) o) []) r.1
@@ -100,20 +98,20 @@ taken-digest facts opening past event entry payload w t =
 -- ---- a claim that begins
 
 -- What a past keeps of a live entry's taking.
-live-taken : (facts : Facts) (opening : List Row) (past : List Event) (entry : ℕ) (l : LiveEntry) → TakenKept facts opening past → live_entry past entry ≡ Some l → WasTaken facts opening past entry
-live-taken facts opening past entry l t e =
+live-taken : (basis : Basis) (past : List Event) (entry : ℕ) (l : LiveEntry) → TakenKept basis past → live_entry past entry ≡ Some l → WasTaken basis past entry
+live-taken basis past entry l t e =
     let same : l.entry ≡ entry = eqb-true l.entry entry (find-passes (λ x. x.entry == entry) (live past) l e) in
-    subst (λ (n : ℕ). WasTaken facts opening past n) same
-    (All-find (λ x. WasTaken facts opening past x.entry) (λ x. x.entry == entry) (live past) l t.live_taken e)
+    subst (λ (n : ℕ). WasTaken basis past n) same
+    (All-find (λ x. WasTaken basis past x.entry) (λ x. x.entry == entry) (live past) l t.live_taken e)
 
 -- An entry that was taken by that event, with that payload, runs.
-pub taken-runs : (facts : Facts) (first : List Seen) (opening : List Row) (past : List Event) (event : Event) (client : ℕ) (taken : Taken) (number : ℕ) → IsHistory opening → IsLegalSo facts first opening (event ∷ past) → off (event ∷ past) ≡ false → 0 < boots (event ∷ past)
-    → TakesWith taken.entry taken.payload event → (t : IsTaken facts first opening (event ∷ past) client taken number) → ClaimRuns facts first opening (event ∷ past) client (parts_taken taken) number t.l None
-taken-runs facts first opening past event client taken number valid legal on booted w t =
-    let own = own-board facts (rows facts opening (event ∷ past)) taken.entry number t.comes.board in
-    let alone = alone-so facts first opening (event ∷ past) taken.entry number t.l valid legal on t.comes.live own in
-    let closed = open-own facts opening (event ∷ past) taken.entry number t.comes.board alone ∙ t.closed in
-    let kept = kept-so facts first opening (event ∷ past) valid legal in
+pub taken-runs : (basis : Basis) (first : List Seen) (past : List Event) (event : Event) (client : ℕ) (taken : Taken) (number : ℕ) → IsHistory basis.opening → IsLegalSo basis first (event ∷ past) → off (event ∷ past) ≡ false → 0 < boots (event ∷ past)
+    → TakesWith taken.entry taken.payload event → (t : IsTaken basis first (event ∷ past) client taken number) → ClaimRuns basis first (event ∷ past) client (parts_taken taken) number t.l None
+taken-runs basis first past event client taken number valid legal on booted w t =
+    let own = own-board basis.facts (rows basis (event ∷ past)) taken.entry number t.comes.board in
+    let alone = alone-so basis first (event ∷ past) taken.entry number t.l valid legal on t.comes.live own in
+    let closed = open-own basis (event ∷ past) taken.entry number t.comes.board alone ∙ t.closed in
+    let kept = kept-so basis first (event ∷ past) valid legal in
     record {
       live = t.comes.live;
       client_is = t.comes.client_is;
@@ -122,9 +120,9 @@ taken-runs facts first opening past event client taken number valid legal on boo
       board_is = t.comes.board;
       opened = closed;
       alone = λ _. alone;
-      stands = out-of_home facts first opening (event ∷ past) number taken.board t.comes.stands closed;
+      stands = out-of_home basis first (event ∷ past) number taken.board t.comes.stands closed;
       shown = t.comes.stands.fits.view closed booted;
       traced = t.traced;
-      digest = taken-digest facts opening past event taken.entry taken.payload w (live-taken facts opening (event ∷ past) taken.entry t.l kept.taken t.comes.live);
+      digest = taken-digest basis past event taken.entry taken.payload w (live-taken basis (event ∷ past) taken.entry t.l kept.taken t.comes.live);
       raw = w.raw_is past;
     }

@@ -15,7 +15,7 @@ use Rattle.update_log.specs.declared.facts.Facts.{Facts}
 use Rattle.update_log.specs.declared.live.LiveEntry.{LiveEntry}
 use Rattle.update_log.specs.declared.live.OpenStep.{OpenStep}
 use Rattle.update_log.specs.Holding.{live_entry, open_steps, step_open}
-use Rattle.update_log.specs.Known.{board_of, is_board_of, rows, seen}
+use Rattle.update_log.specs.Known.{Basis, board_of, is_board_of, rows, seen}
 use Rattle.update_log.specs.Legal.{open_on}
 use Rattle.update_log.specs.Once.{ShowsFirst}
 use Rattle.update_log.specs.Pasts.{off}
@@ -36,12 +36,12 @@ number_of_image image = unwrap_or image.raw 0
 -- told of it and the tail; where no write of it began, it shows the raw version of its first image; the raw
 -- version of its image is one that it may show; an image that is staged is that of a payload whose whole
 -- write is in its journal; and it met at least as many faults as the log tells.
-pub record StandsOut (facts : Facts) (first : List Seen) (opening : List Row) (past : List Event) (number : ℕ) (b : BoardState) (tail : List Mark) : Type 0 where
-  pub journal : b.journal ≡ told facts opening past number ++ tail
+pub record StandsOut (basis : Basis) (first : List Seen) (past : List Event) (number : ℕ) (b : BoardState) (tail : List Mark) : Type 0 where
+  pub journal : b.journal ≡ told basis past number ++ tail
   pub unwritten : list_any is_began b.journal ≡ false → ShowsFirst (view_of b.condition) (first_of_board first number)
-  pub image : RawAllowed facts first opening past number tail (number_of_image b.condition.image)
+  pub image : RawAllowed basis first past number tail (number_of_image b.condition.image)
   pub staged : (image : Image) → b.condition.staged ≡ Some image → IsWritten past b.journal (number_of_image image)
-  pub faults : faulty_ends facts opening past number ≤ b.faults
+  pub faults : faulty_ends basis past number ≤ b.faults
 
 -- ---- the claim
 
@@ -57,18 +57,18 @@ IsOwnStep facts rows entry number s = (s.entry == entry) ≡ false → is_board_
 -- open, or none; its board is the entry's, this step alone is open on it, and it shows what the log saw of
 -- it last; the trace is the log's; and the payload is the one with which the entry was taken. No other
 -- entry has a step open on the board, while the boot isn't off.
-pub record ClaimRuns (facts : Facts) (first : List Seen) (opening : List Row) (past : List Event) (client : ℕ) (parts : Parts) (number : ℕ) (l : LiveEntry) (running : Option Op) : Type 0 where
+pub record ClaimRuns (basis : Basis) (first : List Seen) (past : List Event) (client : ℕ) (parts : Parts) (number : ℕ) (l : LiveEntry) (running : Option Op) : Type 0 where
   pub live : live_entry past parts.entry ≡ Some l
   pub client_is : l.client ≡ client
   pub blocks_are : parts.payload.count ≡ l.blocks
   pub open_is : step_open past parts.entry ≡ open_step client parts.entry running
-  pub board_is : board_of facts (rows facts opening past) parts.entry ≡ Some number
-  pub opened : open_on facts opening past number ≡ open_step client parts.entry running
-  pub alone : off past ≡ false → AllByRecursion (IsOwnStep facts (rows facts opening past) parts.entry number) (open_steps past)
-  pub stands : StandsOut facts first opening past number parts.board []
-  pub shown : view_of parts.board.condition ≡ seen facts opening past number
-  pub traced : trace facts opening parts.entry past ≡ Some parts.trace
-  pub digest : digest_of (rows facts opening past) parts.entry ≡ parts.payload.digest
+  pub board_is : board_of basis.facts (rows basis past) parts.entry ≡ Some number
+  pub opened : open_on basis past number ≡ open_step client parts.entry running
+  pub alone : off past ≡ false → AllByRecursion (IsOwnStep basis.facts (rows basis past) parts.entry number) (open_steps past)
+  pub stands : StandsOut basis first past number parts.board []
+  pub shown : view_of parts.board.condition ≡ seen basis past number
+  pub traced : trace basis parts.entry past ≡ Some parts.trace
+  pub digest : digest_of (rows basis past) parts.entry ≡ parts.payload.digest
   pub raw : raw_of parts.entry past ≡ Some (raw_number parts.payload)
 
 -- ---- what a plugin's step did

@@ -5,11 +5,10 @@ use Rattle.std.proofs.lemmas.List.{length-take-le, take_more}
 use Rattle.std.specs.Prelude.{Some, map, slice_get}
 use Rattle.fw_facts.specs.declared.seen.Mode.{Mode}
 use Rattle.fw_facts.specs.declared.seen.Seen.{Seen}
-use Rattle.history_keeper.specs.declared.row.Row.{Row}
 use Rattle.update_log.proofs.Lists.{by_test}
-use Rattle.update_log.specs.Core.{Core, Stands}
-use Rattle.update_log.specs.CoreAfter.{IsNext}
-use Rattle.update_log.specs.Known.{rows}
+use Rattle.core_state.specs.Core.{Core, Stands}
+use Rattle.update_log.specs.Legal.{IsNext}
+use Rattle.update_log.specs.Known.{Basis, rows}
 use Rattle.update_log.specs.Legal.{BoardListed}
 use Rattle.update_log.specs.Pasts.{past_of}
 use Rattle.update_log.specs.Shows.{FreshShows}
@@ -17,7 +16,6 @@ use Rattle.update_log.specs.declared.event.BoardSeen.{BoardSeen}
 use Rattle.update_log.specs.declared.event.Event.{Event}
 use Rattle.update_log.specs.declared.event.Found.{Found}
 use Rattle.update_log.specs.declared.facts.BootPlan.{BootPlan}
-use Rattle.update_log.specs.declared.facts.Facts.{Facts}
 use Rattle.log_stories.proofs.Growing.{runs-next}
 use Rattle.log_stories.specs.Stories.{RunsOn, board_shown, boards_from, mode_of}
 
@@ -69,27 +67,27 @@ zero-mode raw other e =
     (λ t. let zero : raw ≡ 0 = eqb-true raw 0 t in cc)
     (λ t. let runtime : mode_of raw ≡ Mode.Runtime = rw t refl in absurd (cc))
 
-fresh : (facts : Facts) (opening : List Row) (seens : List Seen) (board raw : ℕ) → slice_get seens board ≡ Some (Seen.Home raw (mode_of raw))
-    → FreshShows facts seens opening [] board [] (Seen.Home raw (mode_of raw))
-fresh facts opening seens board raw h = record { raw = λ raw' mode e. rw h (inl (cc)); mode = zero-mode raw }
+fresh : (basis : Basis) (seens : List Seen) (board raw : ℕ) → slice_get seens board ≡ Some (Seen.Home raw (mode_of raw))
+    → FreshShows basis seens [] board [] (Seen.Home raw (mode_of raw))
+fresh basis seens board raw h = record { raw = λ raw' mode e. rw h (inl (cc)); mode = zero-mode raw }
 
-listed : (facts : Facts) (opening : List Row) (raws : List ℕ) (board : ℕ) (b : BoardSeen) → slice_get (boards_from 0 raws) board ≡ Some b → BoardListed facts (first raws) opening [] plan board b
-listed facts opening raws board b h =
+listed : (basis : Basis) (raws : List ℕ) (board : ℕ) (b : BoardSeen) → slice_get (boards_from 0 raws) board ≡ Some b → BoardListed basis (first raws) [] plan board b
+listed basis raws board b h =
     let s = shown 0 board board raws b (omega arith) h in
-    subst (λ (x : BoardSeen). BoardListed facts (first raws) opening [] plan board x) s.board
-    (record { number = refl; presence = refl; untold = tt; shown = fresh facts opening (first raws) board s.raw s.seen })
+    subst (λ (x : BoardSeen). BoardListed basis (first raws) [] plan board x) s.board
+    (record { number = refl; presence = refl; untold = tt; shown = fresh basis (first raws) board s.raw s.seen })
 
 -- ---- the boot
 
 abbrev pub boot_of : List BoardSeen → Event
 boot_of boards = Event.Boot 1 1000 None Found.Plain boards
 
-booted-runs : (facts : Facts) (opening : List Row) (boards : List BoardSeen) (raws : List ℕ) → length facts.sheets ≡ length raws → boards ≡ boards_from 0 raws → RunsOn facts opening (boot_of boards ∷ [])
-booted-runs facts opening boards raws s b =
+booted-runs : (basis : Basis) (boards : List BoardSeen) (raws : List ℕ) → length basis.facts.sheets ≡ length raws → boards ≡ boards_from 0 raws → RunsOn basis (boot_of boards ∷ [])
+booted-runs basis boards raws s b =
     rw b (
     record {
-      campaign = record { facts = facts; first = first raws; plans = plan ∷ [] };
-      facts_are = refl;
+      first = first raws;
+      plans = plan ∷ [];
       legal = (
         tt,
         record { booted = λ h. cc; on = λ h. cc; below = λ h. cc },
@@ -101,7 +99,7 @@ booted-runs facts opening boards raws s b =
             time_is = refl;
             limit_is = refl;
             count = length-boards 0 raws ∙ sym s;
-            listed = listed facts opening raws;
+            listed = listed basis raws;
             found_is = tt;
           },
         ),
@@ -112,17 +110,17 @@ booted-runs facts opening boards raws s b =
     }
     )
 
-pub runs-booted : (facts : Facts) (opening : List Row) (log : List Event) (boards : List BoardSeen) (raws : List ℕ) → length facts.sheets ≡ length raws → log ≡ [] → boards ≡ boards_from 0 raws
-    → IsNext facts opening (past_of log) (boot_of boards)
-runs-booted facts opening log boards raws s l b = rw l (runs-next facts opening [] (boot_of boards) (booted-runs facts opening boards raws s b))
+pub runs-booted : (basis : Basis) (log : List Event) (boards : List BoardSeen) (raws : List ℕ) → length basis.facts.sheets ≡ length raws → log ≡ [] → boards ≡ boards_from 0 raws
+    → IsNext basis (past_of log) (boot_of boards)
+runs-booted basis log boards raws s l b = rw l (runs-next basis [] (boot_of boards) (booted-runs basis boards raws s b))
 
-pub boot-rows : (facts : Facts) (opening : List Row) (core : Core) (boards : List BoardSeen) → Stands facts opening core → core.log ≡ []
-    → length (rows facts opening (boot_of boards ∷ past_of core.log)) ≤ length core.rows + core.row_room
-boot-rows facts opening core boards s l =
-    let same : length (rows facts opening (past_of core.log)) ≡ length core.rows = ap length (sym s.rows) in
+pub boot-rows : (basis : Basis) (core : Core) (boards : List BoardSeen) → Stands basis core → core.log ≡ []
+    → length (rows basis (boot_of boards ∷ past_of core.log)) ≤ length core.rows + core.row_room
+boot-rows basis core boards s l =
+    let same : length (rows basis (past_of core.log)) ≡ length core.rows = ap length (sym s.rows) in
     omega (arith, same)
 
 -- the log of a boot alone
-pub runs-after : (facts : Facts) (opening : List Row) (log new : List Event) (boards : List BoardSeen) (raws : List ℕ) → length facts.sheets ≡ length raws → log ≡ [] → boards ≡ boards_from 0 raws
-    → new ≡ log ++ boot_of boards ∷ [] → RunsOn facts opening (past_of new)
-runs-after facts opening log new boards raws s l b e = rw (e, l) (booted-runs facts opening boards raws s b)
+pub runs-after : (basis : Basis) (log new : List Event) (boards : List BoardSeen) (raws : List ℕ) → length basis.facts.sheets ≡ length raws → log ≡ [] → boards ≡ boards_from 0 raws
+    → new ≡ log ++ boot_of boards ∷ [] → RunsOn basis (past_of new)
+runs-after basis log new boards raws s l b e = rw (e, l) (booted-runs basis boards raws s b)

@@ -3,3 +3,4 @@ pub mod Plainly
 pub mod Growing
 pub mod Booting
 pub mod Asking
+pub mod Staying

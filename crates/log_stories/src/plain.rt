@@ -5,12 +5,12 @@ ghost use Rattle.std.specs.Str.{bytes_eq};
 ghost use Rattle.fw_facts.specs.Views.{is_home};
 ghost use Rattle.history_keeper.specs.Histories.{is_unsettled};
 ghost use Rattle.history_keeper.specs.declared.row.Row.{Row as KnownRow};
-ghost use Rattle.update_log.specs.Core.{Stands};
+ghost use Rattle.core_state.specs.Core.{Stands};
 ghost use Rattle.update_log.specs.Holding.{is_live, live};
-ghost use Rattle.update_log.specs.Known.{target, row_of, row_with_tag};
+ghost use Rattle.update_log.specs.Known.{basis_of, target, row_of, row_with_tag};
 ghost use Rattle.update_log.specs.Pasts.{past_of};
 ghost use Rattle.update_log.specs.Verdicts.{decided, pending_of, release_asked, present, is_release, fault_of, retry, row_fault, first_refusal, first_unmet_for, refusals, features_for, client_for, wants_room, wants_row, on_target, on_found, on_present, verdict};
-ghost use Rattle.update_log.specs.CoreCase.{HasFew, IsPresent, target_with, row_refusals, device_refusals, version_refusals, rule_refusals, room_refusals};
+ghost use Rattle.request_verdicts.specs.Cases.{HasFew, IsPresent, target_with, row_refusals, device_refusals, version_refusals, rule_refusals, room_refusals};
 ghost use Rattle.log_stories.specs.Plain.{case_over};
 
 use crate::lookups::{in_the_way, is_home, place, row_of, row_with_tag};
@@ -21,12 +21,13 @@ use crate::refusing::{
 use crate::retrying::{not_failed, of_other_device, of_other_release, retried};
 use crate::scans::{blocks_of, free_blocks};
 use crate::target::{Target, target_at};
+use core_state::CoreState;
 use fw_base::{Digest, Name};
 use fw_facts::DeviceView;
 use history_keeper::Row;
 use release_catalogue::ReleaseRef;
 use requirements::{Unmet, first_unmet};
-use update_log::{CoreState, Decision, Event, Facts, Refusal, Request, RetryFault, Stage};
+use update_log::{Decision, Event, Facts, Refusal, Request, RetryFault, Stage};
 
 /// All that a decision reads.
 #[derive(Drop)]
@@ -50,7 +51,7 @@ pub fn plain_verdict(
     stage: Stage,
 ) -> Decision
     requires { length state.now.views < 2 ^ 32 }
-    ensures { (opening : List KnownRow) → Stands facts.now opening state.now → result ≡ verdict facts.now opening (past_of state.now.log) client request.now stage }
+    ensures { (opening : List KnownRow) → Stands (basis_of facts.now opening) state.now → result ≡ verdict (basis_of facts.now opening) (past_of state.now.log) client request.now stage }
 {
     facts.catalogue.within_limits();
     decided(&Case {

@@ -1,21 +1,25 @@
 //! A log that grows by legal events, so that the verdict can be asked of it.
-ghost use Rattle.std.specs.Prelude.{◌≡◌, ◌≤◌, ◌<◌, ◌+◌, ◌&&◌, ◌==◌, ◌∷◌, [], List, None, Some, IfOk, OnOk, is_none, length, not, true, false, if◌then◌else◌};
+ghost use Rattle.std.specs.Prelude.{◌≡◌, ◌≤◌, ◌<◌, ◌+◌, ◌&&◌, ◌==◌, ◌∷◌, [], List, None, Some, IfOk, OnErr, OnOk, is_none, is_some, length, not, true, false, if◌then◌else◌};
 ghost use Rattle.std.specs.List.{list_any};
 ghost use Rattle.history_keeper.specs.Histories.{IsHistory};
 ghost use Rattle.history_keeper.specs.declared.row.Row.{Row as KnownRow};
-ghost use Rattle.update_log.specs.Core.{Stands};
+ghost use Rattle.core_state.specs.Core.{Stands};
 ghost use Rattle.update_log.specs.Holding.{hold, live};
-ghost use Rattle.update_log.specs.Known.{rows, target, target_at};
+ghost use Rattle.update_log.specs.Known.{basis_of, rows, target, target_at};
 ghost use Rattle.fw_facts.specs.Views.{is_home};
 ghost use Rattle.update_log.specs.Legal.{IsFree, Legal, ask_answer, found_view, is_fetched, is_whole};
 ghost use Rattle.update_log.specs.Pasts.{past_of};
-ghost use Rattle.update_log.specs.Shows.{Campaign};
 ghost use Rattle.update_log.specs.Verdicts.{verdict};
-ghost use Rattle.update_log.specs.declared.decision.Stage.{Stage as StageThen};
-ghost use Rattle.log_stories.specs.Stories.{RunsOn, board_shown, boards_from, is_accepted, is_settle, mode_of, unplug_answer, waits};
+ghost use Rattle.update_log.specs.Shows.{campaign_on};
+ghost use Rattle.log_stories.specs.Stories.{RunsOn, board_shown, boards_from, first_boot, is_accepted, is_settle, mode_of, unplug_answer, waits};
+ghost use Rattle.fw_facts.specs.declared.seen.Seen.{Seen};
+ghost use Rattle.update_log.specs.declared.event.Event.{Event};
+ghost use Rattle.update_log.specs.declared.event.Query.{Query};
+ghost use Rattle.update_log.specs.declared.facts.BootPlan.{BootPlan};
 
 use crate::lookups::place;
 use crate::target::{Target, target_at};
+use core_state::{CoreState, step, verdict};
 use device_list::Selector;
 use fw_base::{Listed, NoMemory};
 use fw_facts::{DeviceView, Mode, Seen};
@@ -23,8 +27,8 @@ use history_keeper::{Row, RowState};
 use std::alloc::Global;
 use std::marker::Model;
 use update_log::{
-    AskAnswer, BoardSeen, ClaimAnswer, CoreState, Decision, Event, Facts, FetchNote, Found, Held,
-    Log, PlugAnswer, Query, Request, Stage, Told, step, verdict,
+    AskAnswer, BoardSeen, ClaimAnswer, Decision, Event, Facts, FetchNote, Found, Held, Log,
+    PlugAnswer, Query, Request, Stage, Told,
 };
 
 /// The facts of a story, the rows before its log, and the log.
@@ -45,16 +49,17 @@ pub struct Story {
 
 impl Model for Story {
     ghost use Rattle.log_stories.specs.Stories.{IsStory, StoryTold};
+    ghost use Rattle.update_log.specs.Known.{basis_of};
 
     ghost Value = { StoryTold };
 
-    ghost view = { λ s. record { facts = s.facts; opening = s.opening.items; core = s.state } };
+    ghost view = { λ s. record { basis = basis_of s.facts s.opening.items; core = s.state } };
 
-    ghost invariant = { λ s. IsStory (record { facts = s.facts; opening = s.opening.items; core = s.state }) };
+    ghost invariant = { λ s. IsStory (record { basis = basis_of s.facts s.opening.items; core = s.state }) };
 }
 
 impl Story {
-    ghost use Rattle.log_stories.specs.Stories.{Grown, IsStory, past};
+    ghost use Rattle.log_stories.specs.Stories.{Grown, GrownBy, HasBegun, IsStory, Stayed, ask_event, ask_if_free, claim_event, claim_if_claimable, claim_if_held, is_claimable, is_free, past, settle_if_none_waits, unplug_event};
 
     /// The machine is booted over these rows, and its boards have these raw versions.
     pub fn booted(
@@ -66,6 +71,7 @@ impl Story {
         requires each { length facts.sheets ≡ length raws.now }
         requires few { length raws.now ≤ 256 }
         requires history { IsHistory rows.items }
+        ensures begun { IfOk result (λ story. HasBegun facts rows.items raws.now story) }
     {
         let opening = Vec::from_slice(alloc, &rows)?;
         let boards = boards_shown(alloc, raws)?;
@@ -83,16 +89,18 @@ impl Story {
 
     /// The facts.
     pub fn facts(&self) -> &Facts
-        ensures { result.now ≡ self.now.facts }
+        ensures { result.now ≡ self.now.basis.facts }
     {
         &self.facts
     }
 
     /// Its facts, the rows before its log, and the log, which is legal.
     pub fn into_parts(self) -> StoryParts
-        ensures facts { result.facts ≡ self.facts }
+        ensures facts { result.facts ≡ self.basis.facts }
+        ensures rows { result.rows.items ≡ self.basis.opening }
+        ensures log { result.log ≡ self.core.log }
         ensures history { IsHistory result.rows.items }
-        ensures legal { (c : Campaign) × (c.facts ≡ result.facts) × Legal c result.rows.items result.log }
+        ensures legal { (first : List Seen) × (plans : List BootPlan) × Legal (campaign_on (basis_of result.facts result.rows.items) first plans) result.log }
     {
         self.known();
         let Story {
@@ -118,6 +126,7 @@ impl Story {
     fn reserve(&mut self) -> Result<(), NoMemory>
         ensures room { OnOk result (1 ≤ self.new.core.room) }
         ensures row_room { OnOk result (1 ≤ self.new.core.row_room) }
+        ensures stayed { Stayed self.old self.new }
     {
         self.state.reserve(1)?;
         Ok(())
@@ -126,10 +135,10 @@ impl Story {
     // Puts an event behind the log.
     fn append(&mut self, event: Event)
         ghost before: { List KnownRow }
-        requires before { self.old.opening ≡ before }
-        requires runs { RunsOn self.old.facts before (event ∷ past self.old) }
+        requires before { self.old.basis.opening ≡ before }
+        requires runs { RunsOn (basis_of self.old.basis.facts before) (event ∷ past self.old) }
         requires room { 1 ≤ self.old.core.room }
-        requires row { length (rows self.old.facts before (event ∷ past self.old)) ≤ length self.old.core.rows + self.old.core.row_room }
+        requires row { length (rows (basis_of self.old.basis.facts before) (event ∷ past self.old)) ≤ length self.old.core.rows + self.old.core.row_room }
         ensures grown { Grown event self.old self.new }
     {
         step(&self.facts, &mut self.state, event);
@@ -144,7 +153,7 @@ impl Story {
 
     // What is decided of a client's request at a stage.
     fn decided(&self, client: u32, request: &Request, stage: Stage) -> Decision
-        ensures { result ≡ verdict self.now.facts self.now.opening (past self.now) client request.now stage }
+        ensures { result ≡ verdict self.now.basis (past self.now) client request.now stage }
     {
         verdict(&self.facts, &self.state, client, request, stage)
     }
@@ -158,7 +167,7 @@ impl Story {
 
     // Whether the payload that was fetched is that of the request's release.
     fn is_fetched(&self, request: &Request, note: &FetchNote) -> bool
-        ensures { result ≡ is_fetched note.now (target self.now.facts self.now.core.views request.now) }
+        ensures { result ≡ is_fetched note.now (target self.now.basis.facts self.now.core.views request.now) }
     {
         is_fetched(&self.facts, self.state.views(), request, note)
     }
@@ -172,7 +181,7 @@ impl Story {
 
     // Whether the client has nothing out.
     fn is_free(&self, client: u32) -> bool
-        ensures { result ≡ (is_none (hold (past self.now) client) && not (list_any (λ l. l.client == client) (live (past self.now)))) }
+        ensures { result ≡ is_free (past self.now) client }
     {
         self.state.hold(client).is_none() && !has_live(&self.state, client)
     }
@@ -181,6 +190,7 @@ impl Story {
     fn ask_free(&mut self, client: u32, request: &Request)
         requires free { IsFree (past self.old) client }
         requires room { 1 ≤ self.old.core.room }
+        ensures grown { Grown (ask_event self.old client request.now) self.old self.new }
     {
         self.known();
         let decision = self.decided(client, request, Stage::Ask);
@@ -194,7 +204,11 @@ impl Story {
     }
 
     /// A client asks for an install, where it has nothing out: whether it did.
-    pub fn ask(&mut self, client: u32, request: &Request) -> Result<bool, NoMemory> {
+    pub fn ask(&mut self, client: u32, request: &Request) -> Result<bool, NoMemory>
+        ensures grown { OnOk result (GrownBy (ask_if_free self.old client request.now) self.old self.new) }
+        ensures told { IfOk result (λ did. did ≡ is_free (past self.old) client) }
+        ensures stayed { OnErr result (Stayed self.old self.new) }
+    {
         self.reserve()?;
         if !self.is_free(client) {
             return Ok(false);
@@ -203,25 +217,25 @@ impl Story {
         Ok(true)
     }
 
-    // Whether a claim of the hold is accepted, and this is its payload.
+    // Whether the client may claim the hold with this payload.
     fn is_claimable(&self, client: u32, held: &Held, note: &FetchNote) -> bool
-        ensures { result ≡ (is_fetched note.now (target self.now.facts self.now.core.views held.now.request) && is_accepted (verdict self.now.facts self.now.opening (past self.now) client held.now.request (StageThen.Claim held.now.release))) }
+        ensures { result ≡ is_claimable self.now client note.now held.now }
     {
         let stage = Stage::Claim {
             release: held.release,
         };
         let decision = self.decided(client, &held.request, stage);
-        self.is_fetched(&held.request, note) && is_accept(&decision)
+        held.pending.is_none() && self.is_fetched(&held.request, note) && is_accept(&decision)
     }
 
     // A client claims what it holds, which is accepted.
     fn claim_held(&mut self, client: u32, held: &Held, note: &FetchNote)
         requires held { hold (past self.old) client ≡ Some held.now }
-        requires pending { held.now.pending ≡ None }
-        requires claimable { (is_fetched note.now (target self.old.facts self.old.core.views held.now.request) && is_accepted (verdict self.old.facts self.old.opening (past self.old) client held.now.request (StageThen.Claim held.now.release))) ≡ true }
+        requires claimable { is_claimable self.old client note.now held.now ≡ true }
         requires few { length self.old.core.rows < 65536 }
         requires room { 1 ≤ self.old.core.room }
         requires row_room { 1 ≤ self.old.core.row_room }
+        ensures grown { Grown (claim_event self.old client note.now held.now) self.old self.new }
     {
         self.known();
         let entry = self.row_count() as u32 + 1;
@@ -236,6 +250,8 @@ impl Story {
     /// A client asks a question other than to settle a device.
     pub fn query(&mut self, client: u32, query: &Query) -> Result<(), NoMemory>
         requires { is_settle query.now ≡ false }
+        ensures grown { OnOk result (Grown (Event.Query client query.now) self.old self.new) }
+        ensures stayed { OnErr result (Stayed self.old self.new) }
     {
         self.reserve()?;
         self.query_now(client, query);
@@ -245,6 +261,7 @@ impl Story {
     fn query_now(&mut self, client: u32, query: &Query)
         requires other { is_settle query.now ≡ false }
         requires room { 1 ≤ self.old.core.room }
+        ensures grown { Grown (Event.Query client query.now) self.old self.new }
     {
         self.known();
         self.append(Event::Query {
@@ -254,7 +271,11 @@ impl Story {
     }
 
     /// A client asks to settle a device, where no row waits: whether it did.
-    pub fn settle(&mut self, client: u32, device: &Selector) -> Result<bool, NoMemory> {
+    pub fn settle(&mut self, client: u32, device: &Selector) -> Result<bool, NoMemory>
+        ensures grown { OnOk result (GrownBy (settle_if_none_waits self.old client device.now) self.old self.new) }
+        ensures told { IfOk result (λ did. did ≡ not (list_any waits self.old.core.rows)) }
+        ensures stayed { OnErr result (Stayed self.old self.new) }
+    {
         self.reserve()?;
         if self.has_waiting() {
             return Ok(false);
@@ -273,6 +294,7 @@ impl Story {
     fn settle_now(&mut self, client: u32, device: &Selector)
         requires none { list_any waits self.old.core.rows ≡ false }
         requires room { 1 ≤ self.old.core.room }
+        ensures grown { Grown (Event.Query client (Query.Settle device.now)) self.old self.new }
     {
         self.known();
         self.append(Event::Query {
@@ -282,7 +304,10 @@ impl Story {
     }
 
     /// A client takes a board out of its port, or is told why not.
-    pub fn unplug(&mut self, client: u32, device: &Selector) -> Result<(), NoMemory> {
+    pub fn unplug(&mut self, client: u32, device: &Selector) -> Result<(), NoMemory>
+        ensures grown { OnOk result (Grown (unplug_event self.old client device.now) self.old self.new) }
+        ensures stayed { OnErr result (Stayed self.old self.new) }
+    {
         self.reserve()?;
         self.unplug_now(client, device);
         Ok(())
@@ -290,6 +315,7 @@ impl Story {
 
     fn unplug_now(&mut self, client: u32, device: &Selector)
         requires room { 1 ≤ self.old.core.room }
+        ensures grown { Grown (unplug_event self.old client device.now) self.old self.new }
     {
         self.known();
         let answer = self.unplug_answer(device);
@@ -311,25 +337,27 @@ impl Story {
     }
 
     /// A client claims what it holds, where that is accepted and this was fetched: whether it did.
-    pub fn claim(&mut self, client: u32, note: &FetchNote) -> Result<bool, NoMemory> {
+    pub fn claim(&mut self, client: u32, note: &FetchNote) -> Result<bool, NoMemory>
+        ensures grown { OnOk result (GrownBy (claim_if_held self.old client note.now) self.old self.new) }
+        ensures told { IfOk result (λ did. did ≡ is_some (claim_if_held self.old client note.now)) }
+        ensures stayed { OnErr result (Stayed self.old self.new) }
+    {
         self.reserve()?;
-        let count = self.row_count();
         match self.hold(client) {
-            Some(held) => Ok(self.claim_if(client, &held, note, count)),
+            Some(held) => Ok(self.claim_if(client, &held, note)),
             None => Ok(false),
         }
     }
 
-    // The same of the client's hold, over so many rows.
-    fn claim_if(&mut self, client: u32, held: &Held, note: &FetchNote, count: usize) -> bool
+    // The same of the client's hold.
+    fn claim_if(&mut self, client: u32, held: &Held, note: &FetchNote) -> bool
         requires held { hold (past self.old) client ≡ Some held.now }
-        requires count { count ≡ length self.old.core.rows }
         requires room { 1 ≤ self.old.core.room }
         requires row_room { 1 ≤ self.old.core.row_room }
+        ensures grown { GrownBy (claim_if_claimable self.old client note.now held.now) self.old self.new }
+        ensures told { result ≡ is_claimable self.old client note.now held.now }
     {
-        if count >= 65_536 || held.pending.is_some() {
-            return false;
-        }
+        self.known();
         if !self.is_claimable(client, held, note) {
             return false;
         }
@@ -481,11 +509,12 @@ fn board_shown(board: u32, raw: u32) -> BoardSeen
 fn boot(facts: &Facts, state: &mut CoreState, boards: Vec<BoardSeen>, raws: &[u32])
     requires each { length facts.now.sheets ≡ length raws.now }
     requires shown { boards.items ≡ boards_from 0 raws.now }
-    requires stands { Stands facts.now state.old.rows state.old }
+    requires stands { Stands (basis_of facts.now state.old.rows) state.old }
     requires empty { state.old.log ≡ [] }
     requires room { 1 ≤ state.old.room }
-    ensures stands { Stands facts.now state.old.rows state.new }
-    ensures runs { RunsOn facts.now state.old.rows (past_of state.new.log) }
+    ensures log { state.new.log ≡ first_boot raws.now ∷ [] }
+    ensures stands { Stands (basis_of facts.now state.old.rows) state.new }
+    ensures runs { RunsOn (basis_of facts.now state.old.rows) (past_of state.new.log) }
 {
     step(
         facts,

@@ -1,7 +1,7 @@
 //! The device of a request, and the release chosen for it.
 ghost use Rattle.std.specs.Prelude.{◌≡◌, ◌<◌, Some, IfSome, length, slice_get, option_map};
 ghost use Rattle.update_log.specs.Known.{target_at};
-ghost use Rattle.update_log.specs.CoreCase.{target_with};
+ghost use Rattle.request_verdicts.specs.Cases.{target_with};
 
 use fw_facts::{Component, DeviceView, Release};
 use release_catalogue::ReleaseRef;

@@ -1,13 +1,15 @@
 //! What no clause says of the state: that it is made and stepped with ample memory.
 ghost use Rattle.std.specs.Prelude.{◌≡◌, ◌≤◌, [], IfOk};
-ghost use Rattle.update_log.specs.Core.{Stands};
+ghost use Rattle.core_state.specs.Core.{Stands};
+ghost use Rattle.update_log.specs.Known.{basis_of};
 
+use core_state::{CoreState, step};
 use fw_base::Listed;
 use fw_facts::{MachineFacts, Sheet};
 use release_catalogue::Catalogue;
 use std::alloc::Global;
 use std::test::Fail;
-use update_log::{BoardSeen, CoreState, Event, Facts, Found, step};
+use update_log::{BoardSeen, Event, Facts, Found};
 
 const POOL: u32 = 64;
 
@@ -38,7 +40,7 @@ fn facts_with(alloc: Global, sheets: Vec<Sheet>) -> Result<Facts, Fail>
 fn boot_and_cut(facts: &Facts, state: &mut CoreState, boards: Vec<BoardSeen>)
     requires no_boards { facts.now.sheets ≡ [] }
     requires none_listed { boards.items ≡ [] }
-    requires stands { Stands facts.now [] state.old }
+    requires stands { Stands (basis_of facts.now []) state.old }
     requires empty { state.old.log ≡ [] }
     requires room { 2 ≤ state.old.room }
 {
@@ -59,7 +61,7 @@ fn boot_and_cut(facts: &Facts, state: &mut CoreState, boards: Vec<BoardSeen>)
 /// The same, with room for both.
 fn boot_and_cut_with_room(alloc: Global, facts: &Facts, state: &mut CoreState) -> Result<(), Fail>
     requires no_boards { facts.now.sheets ≡ [] }
-    requires stands { Stands facts.now [] state.old }
+    requires stands { Stands (basis_of facts.now []) state.old }
     requires empty { state.old.log ≡ [] }
 {
     state.reserve(2)?;

@@ -1,6 +1,7 @@
 //! What is decided of a request that tries a row again: both programs decide the same, and what was meant.
 use crate::scenes::{Level, pool_at, request, row, story_over};
 use crate::verdicts::{decided, fault};
+use core_state::verdict;
 use device_list::Selector;
 use guid_ids::device_id;
 use history_keeper::{Row, RowState};
@@ -8,7 +9,7 @@ use log_stories::Story;
 use release_catalogue::ReleaseRef;
 use std::alloc::Global;
 use std::test::Fail;
-use update_log::{Decision, Request, RetryFault, Stage, verdict};
+use update_log::{Decision, Request, RetryFault, Stage};
 use version_formats::Version;
 
 /// The rows that a request finds, of which the first is the one that it may name.

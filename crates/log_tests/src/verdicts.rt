@@ -2,6 +2,7 @@
 use crate::scenes::{
     Level, client_at, pool_at, put, release_at, request, request_at, story_at, story_over,
 };
+use core_state::verdict;
 use device_list::Selector;
 use fw_base::Name;
 use fw_facts::Problem;
@@ -12,7 +13,7 @@ use release_catalogue::ReleaseRef;
 use requirements::Unmet;
 use std::alloc::Global;
 use std::test::Fail;
-use update_log::{Decision, FetchNote, InstallFlags, Refusal, Request, RetryFault, Stage, verdict};
+use update_log::{Decision, FetchNote, InstallFlags, Refusal, Request, RetryFault, Stage};
 use version_formats::Version;
 
 /// The number of a decision: that of its refusal, 0 where it is accepted, and 100 where it is kept.

@@ -1,5 +1,5 @@
 -- What a sink took, in pieces one behind the other; and counts of faults over several calls.
-use Rattle.std.proofs.Common.{◌≡◌, ℕ, ◌+◌, List, [], ◌++◌, take, drop, Option, Some, None, refl, sym, ap, ◌∙◌, append_assoc}
+use Rattle.std.proofs.Common.{◌≡◌, ℕ, List, [], ◌++◌, take, drop, Option, Some, None, refl, sym, ap, ◌∙◌, append_assoc}
 use Rattle.std.proofs.lemmas.List.{take-append-drop, append-nil}
 use Rattle.outer_traits.specs.Sinks.{Took, TookFront}
 

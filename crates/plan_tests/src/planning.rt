@@ -3,20 +3,22 @@ ghost use Rattle.std.specs.Prelude.{◌≡◌, ◌≤◌, List, length, map, cod
 ghost use Rattle.first_boots.specs.FirstBoot.{shown_by};
 ghost use Rattle.history_keeper.specs.Histories.{IsHistory};
 ghost use Rattle.history_keeper.specs.declared.row.Row.{Row};
-ghost use Rattle.update_log.specs.Core.{Stands};
+ghost use Rattle.core_state.specs.Core.{Stands};
 ghost use Rattle.update_log.specs.Pasts.{past_of};
+ghost use Rattle.update_log.specs.Known.{basis_of};
 ghost use Rattle.update_plans.specs.Tags.{IsTag};
 ghost use Rattle.campaign_inputs.specs.Begin.{CanBegin};
 ghost use Rattle.campaign_plans.specs.FirstPlans.{CanBePlanned, IsFirstPlan};
 
 use crate::pasts::told_valid;
 use campaign_plans::{FirstPlan, plan_first};
+use core_state::CoreState;
 use fw_base::Name;
 use history_keeper::Row;
 use site_types::Campaign;
 use std::alloc::Global;
 use std::test::Fail;
-use update_log::{CoreState, Facts};
+use update_log::Facts;
 use update_plans::{Plan, PlanStop, check_plan};
 
 /// What a check says of a plan: nothing, or the number of the first step that isn't good.
@@ -48,7 +50,7 @@ fn said(alloc: Global, facts: &Facts, state: &CoreState, plan: &Plan) -> Result<
     ghost opening: { List Row }
     requires tag { IsTag plan.now.tag }
     requires few_steps { length plan.now.steps ≤ 8192 }
-    requires stands { Stands facts.now opening state.now }
+    requires stands { Stands (basis_of facts.now opening) state.now }
     requires can { CanBePlanned facts.now opening plan.now.tag (past_of state.now.log) }
 {
     if state.boots() == 0 {

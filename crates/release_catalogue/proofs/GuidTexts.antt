@@ -1,5 +1,5 @@
 -- Reading the GUIDs of some texts one after the other.
-use Rattle.std.proofs.Common.{ℕ, ◌+◌, List, ◌++◌, map, Option, Bor}
+use Rattle.std.proofs.Common.{ℕ, List, ◌++◌, map, Option, Bor}
 use Rattle.std.specs.Option.{option_map}
 
 -- The texts behind some references.

@@ -5,9 +5,7 @@ pub mod Report
 pub use Rattle.outer_traits.specs.Faults
 pub use Rattle.outer_traits.specs.Sinks
 pub use Rattle.history_keeper.specs.Histories
-pub use Rattle.update_log.specs.Core
-pub use Rattle.update_log.specs.CoreAfter
-pub use Rattle.update_log.specs.CoreFolds
+pub use Rattle.core_state.specs.Core
 pub use Rattle.update_log.specs.Known
 pub use Rattle.update_log.specs.Legal
 pub use Rattle.update_log.specs.Pasts

@@ -7,7 +7,7 @@ use Rattle.history_keeper.specs.declared.row.Row.{Row}
 use Rattle.update_log.specs.declared.event.Event.{Event}
 use Rattle.update_log.specs.declared.event.Event.TheVariants as events
 use Rattle.update_log.specs.declared.facts.Facts.{Facts}
-use Rattle.update_log.specs.Known.{rows, views}
+use Rattle.update_log.specs.Known.{Basis, rows, views}
 use Rattle.client_scripts.specs.Replies.{reply}
 use Rattle.report_text.specs.Lines.{entry_ended, lines_of}
 
@@ -33,8 +33,8 @@ abbrev pub lines_over : Facts → List DeviceView → List Row → Event → Lis
 lines_over facts views rows event = lines_of facts.sheets (sheet_ended views event) event ++ reply_under facts views rows event
 
 -- The lines of an event in a log over these facts and rows, with these events before it, the newest first.
-abbrev pub lines_in : Facts → List Row → List Event → Event → List ℕ
-lines_in facts opening past event = lines_over facts (views facts opening past) (rows facts opening past) event
+abbrev pub lines_in : Basis → List Event → Event → List ℕ
+lines_in basis past event = lines_over basis.facts (views basis past) (rows basis past) event
 
 -- ---- the report
 
@@ -54,8 +54,8 @@ abbrev pub report_by : (List Event → Event → List ℕ) → List Event → Li
 report_by lines log = first_line ++ (in_turn lines [] log ++ last_line (length log))
 
 -- The report of a log over these facts and the rows before it.
-abbrev pub report : Facts → List Row → List Event → List ℕ
-report facts opening log = report_by (lines_in facts opening) log
+abbrev pub report : Basis → List Event → List ℕ
+report basis log = report_by (lines_in basis) log
 
 -- ---- the lines by the sheets alone
 

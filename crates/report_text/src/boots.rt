@@ -1,7 +1,9 @@
 //! The lines of a log of boots that couldn't read the history: they rest on the sheets alone.
 ghost use Rattle.std.specs.Prelude.{◌≡◌, ◌≤◌, [], None, OnOk, OnErr, IsErrOf};
+ghost use Rattle.std.specs.List.{list_all};
 ghost use Rattle.outer_traits.specs.Faults.{Rose};
 ghost use Rattle.outer_traits.specs.Sinks.{Took, TookFront};
+ghost use Rattle.update_log.specs.Pasts.{is_fault_boot, is_found_fault};
 ghost use Rattle.report_text.specs.Lines.{lines_of};
 ghost use Rattle.report_text.specs.Report.{in_turn, lines_alone};
 
@@ -10,7 +12,44 @@ use crate::stop::ReportStop;
 use fw_facts::Sheet;
 use outer_traits::{Sink, write_whole};
 use std::alloc::Global;
-use update_log::Event;
+use update_log::{Event, Found};
+
+/// Whether each event is a boot that couldn't read the history.
+pub fn are_fault_boots(log: &[Event]) -> bool
+    ensures { result ≡ list_all is_fault_boot log.now }
+{
+    log.iter().all(|event| is_fault_boot(event))
+}
+
+fn is_fault_boot(event: &Event) -> bool
+    ensures { result ≡ is_fault_boot event.now }
+{
+    match event {
+        Event::Boot { found, .. } => is_found_fault(*found),
+        Event::Query { .. }
+        | Event::Ask { .. }
+        | Event::Claim { .. }
+        | Event::Schedule { .. }
+        | Event::Resume { .. }
+        | Event::Start { .. }
+        | Event::End { .. }
+        | Event::Finish { .. }
+        | Event::Judge { .. }
+        | Event::Unplug { .. }
+        | Event::Plug { .. }
+        | Event::GiveBack { .. }
+        | Event::Cut => false,
+    }
+}
+
+fn is_found_fault(found: Found) -> bool
+    ensures { result ≡ is_found_fault found }
+{
+    match found {
+        Found::Fault => true,
+        Found::Plain | Found::Kept | Found::Lost => false,
+    }
+}
 
 /// Writes the lines of an event that ends no step.
 fn write_event<T: Sink>(

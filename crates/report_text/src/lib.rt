@@ -15,5 +15,5 @@ mod stop;
 mod words;
 
 pub use lines::put_lines;
-pub use report::write_report;
+pub use report::{write_report, write_report_in_place};
 pub use stop::ReportStop;

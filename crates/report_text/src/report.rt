@@ -1,30 +1,36 @@
 //! The report of a campaign.
-ghost use Rattle.std.specs.Prelude.{◌≡◌, ◌⊎◌, ◌≤◌, ◌++◌, [], ◌∷◌, List, IfOk, OnOk, OnErr, IsErrOf, length};
+ghost use Rattle.std.specs.Prelude.{◌≡◌, ◌⊎◌, ◌≤◌, ◌++◌, [], ◌∷◌, List, IfOk, OnOk, OnErr, IsErrOf, length, map};
 ghost use Rattle.std.specs.Option.{option_copied};
 ghost use Rattle.outer_traits.specs.Faults.{Rose};
 ghost use Rattle.outer_traits.specs.Sinks.{Took, TookFront};
 ghost use Rattle.history_keeper.specs.declared.row.Row.{Row};
 ghost use Rattle.history_keeper.specs.Histories.{IsHistory};
-ghost use Rattle.update_log.specs.Core.{Stands};
-ghost use Rattle.update_log.specs.CoreAfter.{IsNext};
-ghost use Rattle.update_log.specs.CoreFolds.{AllFaults};
+ghost use Rattle.row_index.specs.Formers.{former_of};
+ghost use Rattle.core_state.specs.Core.{Stands};
+ghost use Rattle.update_log.specs.Legal.{IsNext};
+ghost use Rattle.update_log.specs.Pasts.{AllFaults, past_of};
 ghost use Rattle.update_log.specs.Legal.{Legal};
-ghost use Rattle.update_log.specs.Pasts.{past_of};
-ghost use Rattle.update_log.specs.Shows.{Campaign};
+ghost use Rattle.update_log.specs.Known.{basis_of};
+ghost use Rattle.update_log.specs.Shows.{campaign_on};
 ghost use Rattle.report_text.specs.Report.{in_turn, lines_in, lines_over, report, reply_under, sheet_ended};
+ghost use Rattle.fw_facts.specs.declared.seen.Seen.{Seen};
+ghost use Rattle.update_log.specs.declared.facts.BootPlan.{BootPlan};
 
-use crate::boots::write_alone;
+use crate::boots::{are_fault_boots, write_alone};
 use crate::ends::{write_first, write_last};
 use crate::lines::{entry_ended, put_lines};
 use crate::lookup::sheet_claimed;
 use crate::stop::ReportStop;
 use client_scripts::write_reply;
+use core_state::{CoreState, step};
 use fw_base::NoMemory;
 use fw_facts::{DeviceView, Sheet};
-use history_keeper::{Row, first_faulty};
+use history_keeper::Row;
 use outer_traits::{Sink, write_whole};
+use row_index::{Former, as_were, formers_of};
 use std::alloc::Global;
-use update_log::{CoreState, Event, Facts, Log, step};
+use std::mem;
+use update_log::{Event, Facts, Log};
 
 /// The sheet of the board whose step the event ends.
 fn sheet_ended<'a>(views: &'a [DeviceView], event: &Event) -> Option<&'a Sheet>
@@ -112,10 +118,10 @@ fn follow(
     event: &Event,
 ) -> Result<(), NoMemory>
     ghost opening: { List Row }
-    requires stands { Stands facts.now opening state.old }
-    requires legal { IsNext facts.now opening (past_of state.old.log) event.now }
+    requires stands { Stands (basis_of facts.now opening) state.old }
+    requires legal { IsNext (basis_of facts.now opening) (past_of state.old.log) event.now }
     ensures log { OnOk result (state.new.log ≡ state.old.log ++ event.now ∷ []) }
-    ensures stands { OnOk result (Stands facts.now opening state.new) }
+    ensures stands { Stands (basis_of facts.now opening) state.new }
 {
     state.reserve(1)?;
     let next = event.copy(alloc)?;
@@ -132,15 +138,16 @@ fn write_events<T: Sink>(
     out: &mut T,
 ) -> Result<(), ReportStop>
     ghost opening: { List Row }
-    requires stands { Stands facts.now opening state.old }
+    requires stands { Stands (basis_of facts.now opening) state.old }
     requires empty { state.old.log ≡ [] }
-    requires legal { (c : Campaign) × (c.facts ≡ facts.now) × Legal c opening log.now }
-    ensures whole { OnOk result (Took (in_turn (lines_in facts.now opening) [] log.now) (T.taken out.old) (T.taken out.new)) }
-    ensures front { OnErr result (TookFront (in_turn (lines_in facts.now opening) [] log.now) (T.taken out.old) (T.taken out.new)) }
+    requires legal { (first : List Seen) × (plans : List BootPlan) × Legal (campaign_on (basis_of facts.now opening) first plans) log.now }
+    ensures whole { OnOk result (Took (in_turn (lines_in (basis_of facts.now opening)) [] log.now) (T.taken out.old) (T.taken out.new)) }
+    ensures front { OnErr result (TookFront (in_turn (lines_in (basis_of facts.now opening)) [] log.now) (T.taken out.old) (T.taken out.new)) }
     ensures cause { IsErrOf result ReportStop.SinkFault → Rose (T.faults out.old) (T.faults out.new) }
     ensures quiet { OnOk result (T.faults out.new ≡ T.faults out.old) }
     ensures quiet_no_memory { IsErrOf result ReportStop.NoMemory → T.faults out.new ≡ T.faults out.old }
     ensures counts { T.faults out.old ≤ T.faults out.new }
+    ensures stands { Stands (basis_of facts.now opening) state.new }
 {
     let mut buffer = Vec::new(alloc);
     for event in log {
@@ -150,28 +157,30 @@ fn write_events<T: Sink>(
     Ok(())
 }
 
-/// Writes the lines of all events of a log over these rows. Where the rows are no history, each event
-/// is a boot that couldn't read them, and its lines rest on the sheets alone.
+/// Writes the lines of all events of a log over these rows. Where each event is a boot that couldn't read the
+/// history, the rows may be none, and the lines rest on the sheets alone.
 fn write_log<T: Sink>(
     alloc: Global,
     facts: &Facts,
-    rows: &[Row],
+    rows: &mut Vec<Row>,
     log: &[Event],
     out: &mut T,
 ) -> Result<(), ReportStop>
     requires few { length facts.now.sheets ≤ 256 }
-    requires legal { (c : Campaign) × (c.facts ≡ facts.now) × Legal c rows.now log.now }
-    requires history { IsHistory rows.now ⊎ AllFaults (past_of log.now) }
-    ensures whole { OnOk result (Took (in_turn (lines_in facts.now rows.now) [] log.now) (T.taken out.old) (T.taken out.new)) }
-    ensures front { OnErr result (TookFront (in_turn (lines_in facts.now rows.now) [] log.now) (T.taken out.old) (T.taken out.new)) }
+    requires legal { (first : List Seen) × (plans : List BootPlan) × Legal (campaign_on (basis_of facts.now rows.old.items) first plans) log.now }
+    requires history { IsHistory rows.old.items ⊎ AllFaults (past_of log.now) }
+    ensures whole { OnOk result (Took (in_turn (lines_in (basis_of facts.now rows.old.items)) [] log.now) (T.taken out.old) (T.taken out.new)) }
+    ensures front { OnErr result (TookFront (in_turn (lines_in (basis_of facts.now rows.old.items)) [] log.now) (T.taken out.old) (T.taken out.new)) }
     ensures cause { IsErrOf result ReportStop.SinkFault → Rose (T.faults out.old) (T.faults out.new) }
     ensures quiet { OnOk result (T.faults out.new ≡ T.faults out.old) }
     ensures quiet_no_memory { IsErrOf result ReportStop.NoMemory → T.faults out.new ≡ T.faults out.old }
     ensures counts { T.faults out.old ≤ T.faults out.new }
+    ensures rows { rows.new.items ≡ rows.old.items }
 {
-    match first_faulty(alloc, rows)? {
-        None => write_over(alloc, facts, rows, log, out),
-        Some(_) => write_alone(alloc, facts.sheets.items(), log, out),
+    if are_fault_boots(log) {
+        write_alone(alloc, facts.sheets.items(), log, out)
+    } else {
+        write_over(alloc, facts, rows, log, out)
     }
 }
 
@@ -179,38 +188,49 @@ fn write_log<T: Sink>(
 fn write_over<T: Sink>(
     alloc: Global,
     facts: &Facts,
-    rows: &[Row],
+    rows: &mut Vec<Row>,
     log: &[Event],
     out: &mut T,
 ) -> Result<(), ReportStop>
     ghost opening: { List Row }
     requires few { length facts.now.sheets ≤ 256 }
-    requires same { rows.now ≡ opening }
-    requires legal { (c : Campaign) × (c.facts ≡ facts.now) × Legal c opening log.now }
+    requires same { rows.old.items ≡ opening }
+    requires legal { (first : List Seen) × (plans : List BootPlan) × Legal (campaign_on (basis_of facts.now opening) first plans) log.now }
     requires history { IsHistory opening }
-    ensures whole { OnOk result (Took (in_turn (lines_in facts.now opening) [] log.now) (T.taken out.old) (T.taken out.new)) }
-    ensures front { OnErr result (TookFront (in_turn (lines_in facts.now opening) [] log.now) (T.taken out.old) (T.taken out.new)) }
+    ensures whole { OnOk result (Took (in_turn (lines_in (basis_of facts.now opening)) [] log.now) (T.taken out.old) (T.taken out.new)) }
+    ensures front { OnErr result (TookFront (in_turn (lines_in (basis_of facts.now opening)) [] log.now) (T.taken out.old) (T.taken out.new)) }
     ensures cause { IsErrOf result ReportStop.SinkFault → Rose (T.faults out.old) (T.faults out.new) }
     ensures quiet { OnOk result (T.faults out.new ≡ T.faults out.old) }
     ensures quiet_no_memory { IsErrOf result ReportStop.NoMemory → T.faults out.new ≡ T.faults out.old }
     ensures counts { T.faults out.old ≤ T.faults out.new }
+    ensures rows { rows.new.items ≡ opening }
 {
-    let mut state = state_over(alloc, facts, rows)?;
-    write_events(alloc, facts, &mut state, log, out)
+    let (mut state, formers) = state_over(alloc, facts, rows)?;
+    let written = write_events(alloc, facts, &mut state, log, out);
+    let (_, followed) = state.into_log_and_rows();
+    *rows = as_were(followed, &formers);
+    written
 }
 
-/// The state before the first event of a log over a history.
-fn state_over(alloc: Global, facts: &Facts, rows: &[Row]) -> Result<CoreState, NoMemory>
+/// The state before the first event of a log over a history, whose rows it takes, and what each row is then.
+fn state_over(
+    alloc: Global,
+    facts: &Facts,
+    rows: &mut Vec<Row>,
+) -> Result<(CoreState, Vec<Former>), NoMemory>
     ghost opening: { List Row }
     requires few { length facts.now.sheets ≤ 256 }
-    requires same { rows.now ≡ opening }
+    requires same { rows.old.items ≡ opening }
     requires history { IsHistory opening }
-    ensures empty { IfOk result (λ state. state.log ≡ []) }
-    ensures stands { IfOk result (λ state. Stands facts.now opening state) }
+    ensures empty { IfOk result (λ over. over.0.log ≡ []) }
+    ensures stands { IfOk result (λ over. Stands (basis_of facts.now opening) over.0) }
+    ensures formers { IfOk result (λ over. over.1.items ≡ map former_of opening) }
+    ensures unchanged { OnErr result (rows.new.items ≡ opening) }
 {
     let mut state = CoreState::new(alloc, facts)?;
-    state.set_rows(Vec::from_slice(alloc, rows)?);
-    Ok(state)
+    let formers = formers_of(alloc, rows)?;
+    state.set_rows(mem::replace(rows, Vec::new(alloc)));
+    Ok((state, formers))
 }
 
 /// Writes the report of a campaign's log. The rows are those before its first boot, and the log is a
@@ -226,14 +246,37 @@ pub fn write_report<T: Sink>(
     out: &mut T,
 ) -> Result<(), ReportStop>
     requires few { length facts.now.sheets ≤ 256 }
-    requires legal { (c : Campaign) × (c.facts ≡ facts.now) × Legal c rows.now log.now }
+    requires legal { (first : List Seen) × (plans : List BootPlan) × Legal (campaign_on (basis_of facts.now rows.now) first plans) log.now }
     requires history { IsHistory rows.now ⊎ AllFaults (past_of log.now) }
-    ensures whole { OnOk result (Took (report facts.now rows.now log.now) (T.taken out.old) (T.taken out.new)) }
-    ensures front { OnErr result (TookFront (report facts.now rows.now log.now) (T.taken out.old) (T.taken out.new)) }
+    ensures whole { OnOk result (Took (report (basis_of facts.now rows.now) log.now) (T.taken out.old) (T.taken out.new)) }
+    ensures front { OnErr result (TookFront (report (basis_of facts.now rows.now) log.now) (T.taken out.old) (T.taken out.new)) }
     ensures cause { IsErrOf result ReportStop.SinkFault → Rose (T.faults out.old) (T.faults out.new) }
     ensures quiet { OnOk result (T.faults out.new ≡ T.faults out.old) }
     ensures quiet_no_memory { IsErrOf result ReportStop.NoMemory → T.faults out.new ≡ T.faults out.old }
     ensures counts { T.faults out.old ≤ T.faults out.new }
+{
+    let mut followed = Vec::from_slice(alloc, rows)?;
+    write_report_in_place(alloc, facts, &mut followed, log, out)
+}
+
+/// The same, and the rows are changed as the log changes them, and put back: so no second list of them is made.
+pub fn write_report_in_place<T: Sink>(
+    alloc: Global,
+    facts: &Facts,
+    rows: &mut Vec<Row>,
+    log: &Log,
+    out: &mut T,
+) -> Result<(), ReportStop>
+    requires few { length facts.now.sheets ≤ 256 }
+    requires legal { (first : List Seen) × (plans : List BootPlan) × Legal (campaign_on (basis_of facts.now rows.old.items) first plans) log.now }
+    requires history { IsHistory rows.old.items ⊎ AllFaults (past_of log.now) }
+    ensures whole { OnOk result (Took (report (basis_of facts.now rows.old.items) log.now) (T.taken out.old) (T.taken out.new)) }
+    ensures front { OnErr result (TookFront (report (basis_of facts.now rows.old.items) log.now) (T.taken out.old) (T.taken out.new)) }
+    ensures cause { IsErrOf result ReportStop.SinkFault → Rose (T.faults out.old) (T.faults out.new) }
+    ensures quiet { OnOk result (T.faults out.new ≡ T.faults out.old) }
+    ensures quiet_no_memory { IsErrOf result ReportStop.NoMemory → T.faults out.new ≡ T.faults out.old }
+    ensures counts { T.faults out.old ≤ T.faults out.new }
+    ensures rows { rows.new.items ≡ rows.old.items }
 {
     write_parts(alloc, facts, rows, log.items(), out)
 }
@@ -242,19 +285,20 @@ pub fn write_report<T: Sink>(
 fn write_parts<T: Sink>(
     alloc: Global,
     facts: &Facts,
-    rows: &[Row],
+    rows: &mut Vec<Row>,
     log: &[Event],
     out: &mut T,
 ) -> Result<(), ReportStop>
     requires few { length facts.now.sheets ≤ 256 }
-    requires legal { (c : Campaign) × (c.facts ≡ facts.now) × Legal c rows.now log.now }
-    requires history { IsHistory rows.now ⊎ AllFaults (past_of log.now) }
-    ensures whole { OnOk result (Took (report facts.now rows.now log.now) (T.taken out.old) (T.taken out.new)) }
-    ensures front { OnErr result (TookFront (report facts.now rows.now log.now) (T.taken out.old) (T.taken out.new)) }
+    requires legal { (first : List Seen) × (plans : List BootPlan) × Legal (campaign_on (basis_of facts.now rows.old.items) first plans) log.now }
+    requires history { IsHistory rows.old.items ⊎ AllFaults (past_of log.now) }
+    ensures whole { OnOk result (Took (report (basis_of facts.now rows.old.items) log.now) (T.taken out.old) (T.taken out.new)) }
+    ensures front { OnErr result (TookFront (report (basis_of facts.now rows.old.items) log.now) (T.taken out.old) (T.taken out.new)) }
     ensures cause { IsErrOf result ReportStop.SinkFault → Rose (T.faults out.old) (T.faults out.new) }
     ensures quiet { OnOk result (T.faults out.new ≡ T.faults out.old) }
     ensures quiet_no_memory { IsErrOf result ReportStop.NoMemory → T.faults out.new ≡ T.faults out.old }
     ensures counts { T.faults out.old ≤ T.faults out.new }
+    ensures rows { rows.new.items ≡ rows.old.items }
 {
     write_first(out)?;
     write_log(alloc, facts, rows, log, out)?;

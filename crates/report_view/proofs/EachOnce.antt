@@ -7,7 +7,7 @@ use Rattle.report_view.specs.declared.event.Event.{Event}
 use Rattle.report_view.specs.declared.line.Line.{Line}
 use Rattle.report_view.specs.declared.line.Line.TheVariants as lines
 use Rattle.report_view.specs.Reading.{line_read}
-use Rattle.report_view.specs.Events.{event_here, events, events_from, is_event, line_at, lines_of, rest_of, tells_event}
+use Rattle.report_view.specs.Events.{event_here, events_from, is_event, line_at, lines_of, rest_of, tells_event}
 use Rattle.report_view.specs.Pages.{page, page_after, page_before}
 use Rattle.report_view.specs.Views.{DrawsEachOnce}
 

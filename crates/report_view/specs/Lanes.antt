@@ -1,5 +1,5 @@
 -- The lanes of a page, and which is whose.
-use Rattle.std.specs.Prelude.{ℕ, ◌+◌, ◌==◌, Bool, true, false, List, [], ◌∷◌, ◌++◌, nat_lt, codes, count_by, Option, Some, None, if◌then◌else◌}
+use Rattle.std.specs.Prelude.{ℕ, ◌==◌, Bool, true, false, List, [], ◌∷◌, ◌++◌, nat_lt, codes, count_by, Option, Some, None, if◌then◌else◌}
 use Rattle.std.specs.List.{fold, list_any, position_or_len}
 use Rattle.std.specs.Str.{bytes_eq}
 use Rattle.report_view.specs.declared.line.Kind.{Kind}

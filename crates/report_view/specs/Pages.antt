@@ -1,5 +1,5 @@
 -- The page of a text.
-use Rattle.std.specs.Prelude.{ℕ, ◌+◌, ◌-◌, ◌<◌, ◌==◌, nat_lt, Bool, true, false, not, List, [], ◌∷◌, ◌++◌, length, codes, count_by, is_some, Option, Some, None, if◌then◌else◌}
+use Rattle.std.specs.Prelude.{ℕ, ◌-◌, ◌==◌, nat_lt, Bool, true, false, not, List, [], ◌∷◌, ◌++◌, length, codes, count_by, is_some, Option, Some, None, if◌then◌else◌}
 use Rattle.std.specs.List.{flat_map, fold}
 use Rattle.std.specs.Fmt.{decimal}
 use Rattle.report_view.specs.declared.html.TheConstants.{CUT_OFF_ITEM, DRAWN_ITEM, ITEM_END, REST_ITEM, STRAY_END, STRAY_ITEM, STRAY_TEXT, TOLD_ITEM, TOLD_NUMBER, UNREAD_ITEM}

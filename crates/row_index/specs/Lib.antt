@@ -1,3 +1,4 @@
+pub mod Formers
 pub mod Rows
 pub mod Indexes
 pub use Rattle.history_keeper.specs.Changes

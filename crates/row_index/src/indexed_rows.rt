@@ -78,6 +78,14 @@ impl IndexedRows {
         &self.rows
     }
 
+    /// The rows, without their index. It takes no memory.
+    pub fn into_rows(self) -> Vec<Row>
+        ensures { result.items ≡ self.rows }
+    {
+        let IndexedRows { rows, index: _ } = self;
+        rows
+    }
+
     /// The row of an entry.
     pub fn row_of(&self, entry: u32) -> Option<&Row>
         ensures { option_copied result ≡ find (has_entry entry) self.now.rows }

@@ -2,7 +2,7 @@
 use release_catalogue::Reason;
 
 /// What a reason means, in a sentence without its end.
-pub fn meaning(reason: Reason) -> &'static str {
+pub(crate) fn meaning(reason: Reason) -> &'static str {
     match reason {
         Reason::NotJson => {
             "the text is no JSON in UTF-8, nests more than 127 deep, or has a number that is too large"
@@ -34,7 +34,7 @@ pub fn meaning(reason: Reason) -> &'static str {
 }
 
 /// The heading under which both pages say more.
-pub fn part(reason: Reason) -> &'static str {
+pub(crate) fn part(reason: Reason) -> &'static str {
     match reason {
         Reason::BadPattern { .. } => "Patterns",
         Reason::BadCompare => "Requirements",

@@ -2,13 +2,12 @@
 use Rattle.std.proofs.Common.{◌≡◌, ℕ, ◌≤◌, ◌+◌, false, List, [], ◌∷◌, append-nil, refl, sym, ◌∙◌, arith}
 use Rattle.std.specs.Prelude.{Some, Err}
 use Rattle.plugin_trait.specs.Steps.{PluginSteps}
-use Rattle.history_keeper.specs.declared.row.Row.{Row}
 use Rattle.update_log.specs.declared.answer.ClaimAnswer.{ClaimAnswer}
-use Rattle.update_log.specs.declared.facts.Facts.{Facts}
 use Rattle.update_log.specs.declared.event.Event.{Event}
 use Rattle.update_log.specs.declared.refusal.FetchNote.{FetchNote}
 use Rattle.update_log.specs.declared.request.Request.{Request}
 use Rattle.update_log.specs.Pasts.{client_of, is_boot}
+use Rattle.update_log.specs.Known.{Basis}
 use Rattle.daemon_core.specs.declared.stop.Stop.{Stop}
 use Rattle.client_plays.specs.declared.played.Played.{Played}
 use Rattle.client_plays.specs.Faults.{FaultsTold, faults_in, faults_noted, tells_shelf_fault}
@@ -58,9 +57,9 @@ claim-told noted old mid new a b = omega arith
 pub claim-same : (noted : ℕ) (old new : PassView Entry) → faults_in (own new) ≡ faults_in (own old) + noted → faults_in (own new) ≤ faults_in (own old) + noted
 claim-same noted old new a = omega arith
 
-pub claim-taken : (facts : Facts) (opening : List Row) (plugins : ℕ → PluginSteps) (taken : List Event) (noted entry : ℕ) (played : Played) (old mid new : PassView Entry) → faults_in (own mid) ≡ faults_in (own old) + noted → Ended played (UpdatePlays facts opening plugins mid.number entry taken) mid new → faults_in (own new) ≤ faults_in (own old) + noted
-claim-taken facts opening plugins taken noted entry played old mid new a e =
-    claim-told noted old mid new a (ended-quiet played (UpdatePlays facts opening plugins mid.number entry taken) mid new (quiet-update facts opening plugins mid.number entry taken) e)
+pub claim-taken : (basis : Basis) (plugins : ℕ → PluginSteps) (taken : List Event) (noted entry : ℕ) (played : Played) (old mid new : PassView Entry) → faults_in (own mid) ≡ faults_in (own old) + noted → Ended played (UpdatePlays basis plugins mid.number entry taken) mid new → faults_in (own new) ≤ faults_in (own old) + noted
+claim-taken basis plugins taken noted entry played old mid new a e =
+    claim-told noted old mid new a (ended-quiet played (UpdatePlays basis plugins mid.number entry taken) mid new (quiet-update basis plugins mid.number entry taken) e)
 
 pub claim-none : (noted : ℕ) (old mid new : PassView Entry) → faults_in (own mid) ≡ faults_in (own old) → faults_in (own new) ≡ faults_in (own mid) → faults_in (own new) ≤ faults_in (own old) + noted
 claim-none noted old mid new a b = omega arith

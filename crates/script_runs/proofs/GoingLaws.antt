@@ -1,13 +1,12 @@
 -- Going through a list of things.
-use Rattle.std.proofs.Common.{◌≡◌, ℕ, Bool, true, false, List, [], ◌∷◌, ◌++◌, refl, subst, inl, inr}
+use Rattle.std.proofs.Common.{◌≡◌, ℕ, Bool, true, false, List, [], ◌∷◌, ◌++◌, refl, sym, subst, inl, inr}
 use Rattle.std.specs.Prelude.{Option, Some, None}
 use Rattle.client_plays.proofs.RestLaws.{still-played, so-left}
-use Rattle.history_keeper.specs.declared.row.Row.{Row}
-use Rattle.update_log.specs.declared.facts.Facts.{Facts}
 use Rattle.update_log.specs.Pasts.{off}
+use Rattle.update_log.specs.Known.{Basis}
 use Rattle.client_scripts.specs.declared.item.Item.{Item}
 use Rattle.client_plays.specs.declared.played.Played.{Played}
-use Rattle.client_plays.specs.Endings.{OnceMore}
+use Rattle.client_plays.specs.Endings.{EndsSo, OnceMore}
 use Rattle.client_plays.specs.Moments.{Moment}
 use Rattle.client_plays.specs.Plays.{Plays}
 use Rattle.client_plays.specs.Scripts.{PlayedSo, PlaysUntil}
@@ -18,19 +17,25 @@ use Rattle.turn_lock.specs.Shown.{PassView}
 use Rattle.shared_daemon.specs.declared.entry.Entry.{Entry}
 use Rattle.shared_daemon.specs.Closings.{IsFreePass}
 use Rattle.shared_daemon.specs.Entries.{past_seen}
-use Rattle.script_runs.specs.Passes.{Ended, EndedMore, PassWent, SoFar}
+use Rattle.script_runs.specs.Passes.{Did, Ended, PassWent, SoFar, told_of}
 use Rattle.script_runs.proofs.DidLaws.{did-both, did-nothing}
 
--- One thing more, by how its play ended.
-pub more-done : (wanting : Bool) (Play : List Moment → Type 0) (old new : PassView Entry) → Ended Played.Done Play old new → EndedMore (Some wanting) wanting Play old new
-more-done true Play old new p = record { moments = p.moments; did = p.did; more = (inl refl, inl p.ends) }
-more-done false Play old new p = record { moments = p.moments; did = p.did; more = (inr refl, p.ends) }
+-- What a client did who played one thing more: it was played; or it was left for want of memory, and
+-- that is told; or it was left in a boot that is off.
+pub record EndedMore (told : Option Bool) (wanting : Bool) (Play : List Moment → Type 0) (old new : PassView Entry) : Type 0 where
+  pub moments : List Moment
+  pub did : Did moments old new
+  pub more : OnceMore told wanting old.number Play (past_seen new.seen) moments
 
-pub more-wanting : (wanting : Bool) (Play : List Moment → Type 0) (old new : PassView Entry) → Ended Played.NoMemory Play old new → EndedMore (Some true) wanting Play old new
-more-wanting wanting Play old new p = record { moments = p.moments; did = p.did; more = (inl refl, inr p.ends) }
-
-pub more-off : (wanting : Bool) (Play : List Moment → Type 0) (old new : PassView Entry) → Ended Played.Off Play old new → EndedMore None wanting Play old new
-more-off wanting Play old new p = record { moments = p.moments; did = p.did; more = p.ends }
+pub more-told : (played : Played) (told : Option Bool) (wanting : Bool) (Play : List Moment → Type 0) (old new : PassView Entry) → told ≡ told_of played wanting → Ended played Play old new → EndedMore told wanting Play old new
+more-told played told wanting Play old new e p =
+    record { moments = p.moments; did = p.did; more = subst (λ (t : Option Bool). OnceMore t wanting old.number Play (past_seen new.seen) p.moments) (sym e) (once played wanting p.ends) }
+  where
+    once : (x : Played) (w : Bool) → EndsSo x old.number Play (past_seen new.seen) p.moments → OnceMore (told_of x w) w old.number Play (past_seen new.seen) p.moments
+    once Played.Done true h = (inl refl, inl h)
+    once Played.Done false h = (inr refl, h)
+    once Played.NoMemory w h = (inl refl, inr h)
+    once Played.Off w h = h
 
 -- Nothing was done yet.
 pub so_far-nothing : {X : Type 0} (wanting : Bool) (Play : X → List Moment → Type 0) (pass : PassView Entry) → IsFreePass pass → SoFar wanting Play [] pass pass
@@ -65,8 +70,8 @@ went-all wanting Play all old new s =
     record { moments = s.moments; did = s.did; plays = so-all (off (past_seen new.seen)) wanting old.number Play all s.moments s.plays }
 
 -- The same plays, by a pass and a shelf that are told the same of.
-pub same-plays : (facts : Facts) (opening : List Row) (plugins : ℕ → PluginSteps) (told : Option Bool) (wanting : Bool) (item : Item) (files now : Files) (old mid new : PassView Entry) → now ≡ files → mid.number ≡ old.number → EndedMore told wanting (Plays facts opening (means_of now plugins) mid.number item) mid new
-    → EndedMore told wanting (Plays facts opening (means_of files plugins) old.number item) mid new
-same-plays facts opening plugins told wanting item files now old mid new f n m =
-    subst (λ (k : ℕ). EndedMore told wanting (Plays facts opening (means_of files plugins) k item) mid new) n
-    (subst (λ (x : Files). EndedMore told wanting (Plays facts opening (means_of x plugins) mid.number item) mid new) f m)
+pub same-plays : (basis : Basis) (plugins : ℕ → PluginSteps) (told : Option Bool) (wanting : Bool) (item : Item) (files now : Files) (old mid new : PassView Entry) → now ≡ files → mid.number ≡ old.number → EndedMore told wanting (Plays basis (means_of now plugins) mid.number item) mid new
+    → EndedMore told wanting (Plays basis (means_of files plugins) old.number item) mid new
+same-plays basis plugins told wanting item files now old mid new f n m =
+    subst (λ (k : ℕ). EndedMore told wanting (Plays basis (means_of files plugins) k item) mid new) n
+    (subst (λ (x : Files). EndedMore told wanting (Plays basis (means_of x plugins) mid.number item) mid new) f m)

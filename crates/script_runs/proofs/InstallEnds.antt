@@ -13,6 +13,7 @@ use Rattle.update_log.specs.declared.refusal.Refusal.{Refusal}
 use Rattle.update_log.specs.declared.request.Request.{Request}
 use Rattle.update_log.specs.Holding.{hold, holds, live}
 use Rattle.update_log.specs.Pasts.{off}
+use Rattle.update_log.specs.Known.{Basis, basis_of}
 use Rattle.daemon_core.specs.declared.claimed.ClaimStop.{ClaimStop}
 use Rattle.daemon_core.specs.declared.fetched.Fetched.{Fetched}
 use Rattle.daemon_core.specs.declared.hold.Hold.{Hold}
@@ -60,10 +61,10 @@ back-live : (client : ℕ) (pending : Option ℕ) (request : Request) (past : Li
 back-live client None request past = refl
 back-live client (Some entry) request past = refl
 
-online-plays : (facts : Facts) (opening : List Row) (means : Means) (client : ℕ) (request : Request) (offline : Bool) (moments : List Moment) → offline ≡ false → InstallPlays facts opening means client request moments
-    → MatchBool offline (Alone (SchedulePlays client request) moments) (InstallPlays facts opening means client request moments)
-online-plays facts opening means client request true moments e p = cc
-online-plays facts opening means client request false moments e p = p
+online-plays : (basis : Basis) (means : Means) (client : ℕ) (request : Request) (offline : Bool) (moments : List Moment) → offline ≡ false → InstallPlays basis means client request moments
+    → MatchBool offline (Alone (SchedulePlays client request) moments) (InstallPlays basis means client request moments)
+online-plays basis means client request true moments e p = cc
+online-plays basis means client request false moments e p = p
 
 -- A claim that was stopped hands the ticket and what was fetched back.
 pub held-back : (stopped : ClaimStop) (ticket : Ticket) (fetched : Fetched) (out : Option Held) → stopped.ticket ≡ ticket → stopped.fetched ≡ fetched → out ≡ Some (held_by ticket (block_count fetched)) → out ≡ Some (held_by stopped.ticket (block_count stopped.fetched))
@@ -71,21 +72,21 @@ held-back stopped ticket fetched out t f h =
     subst (λ (x : Ticket). out ≡ Some (held_by x (block_count stopped.fetched))) (sym t)
     (subst (λ (y : Fetched). out ≡ Some (held_by ticket (block_count y))) (sym f) h)
 
-pub claim-stopped : (facts : Facts) (opening : List Row) (means : Means) (stopped : ClaimStop) (ticket : Ticket) (fetched : Fetched) (played : Played) (old mid new : PassView Entry) → stopped.ticket ≡ ticket → stopped.fetched ≡ fetched → own mid ≡ own old → mid.number ≡ old.number
-    → IsFetched facts means.files ticket.release (note_of fetched) → (IsFetched facts means.files stopped.ticket.release (note_of stopped.fetched) → Ended played (ClaimPlays facts opening (files_alone means.files) mid.number stopped.ticket.request stopped.ticket.release) mid new)
-    → Ended played (ClaimPlays facts opening means old.number ticket.request ticket.release) old new
-claim-stopped facts opening means stopped ticket fetched played old mid new t f o s is k =
-    let is' : IsFetched facts means.files stopped.ticket.release (note_of stopped.fetched) =
-    subst (λ (x : Ticket). IsFetched facts means.files x.release (note_of stopped.fetched)) (sym t)
-    (subst (λ (y : Fetched). IsFetched facts means.files ticket.release (note_of y)) (sym f) is)
+pub claim-stopped : (basis : Basis) (means : Means) (stopped : ClaimStop) (ticket : Ticket) (fetched : Fetched) (played : Played) (old mid new : PassView Entry) → stopped.ticket ≡ ticket → stopped.fetched ≡ fetched → own mid ≡ own old → mid.number ≡ old.number
+    → IsFetched basis.facts means.files ticket.release (note_of fetched) → (IsFetched basis.facts means.files stopped.ticket.release (note_of stopped.fetched) → Ended played (ClaimPlays basis (files_alone means.files) mid.number stopped.ticket.request stopped.ticket.release) mid new)
+    → Ended played (ClaimPlays basis means old.number ticket.request ticket.release) old new
+claim-stopped basis means stopped ticket fetched played old mid new t f o s is k =
+    let is' : IsFetched basis.facts means.files stopped.ticket.release (note_of stopped.fetched) =
+    subst (λ (x : Ticket). IsFetched basis.facts means.files x.release (note_of stopped.fetched)) (sym t)
+    (subst (λ (y : Fetched). IsFetched basis.facts means.files ticket.release (note_of y)) (sym f) is)
     in
-    let none : Ended played (ClaimPlays facts opening (files_alone means.files) mid.number ticket.request ticket.release) mid new =
-    subst (λ (x : Ticket). Ended played (ClaimPlays facts opening (files_alone means.files) mid.number x.request x.release) mid new) t (k is')
+    let none : Ended played (ClaimPlays basis (files_alone means.files) mid.number ticket.request ticket.release) mid new =
+    subst (λ (x : Ticket). Ended played (ClaimPlays basis (files_alone means.files) mid.number x.request x.release) mid new) t (k is')
     in
-    ended-after played (ClaimPlays facts opening means old.number ticket.request ticket.release) old mid new o s
-    (subst (λ (n : ℕ). Ended played (ClaimPlays facts opening means n ticket.request ticket.release) mid new) s
-    (ended-wider played (ClaimPlays facts opening means mid.number ticket.request ticket.release) (ClaimPlays facts opening (files_alone means.files) mid.number ticket.request ticket.release) mid new
-    (claim-wider facts opening means mid.number ticket.request ticket.release) none))
+    ended-after played (ClaimPlays basis means old.number ticket.request ticket.release) old mid new o s
+    (subst (λ (n : ℕ). Ended played (ClaimPlays basis means n ticket.request ticket.release) mid new) s
+    (ended-wider played (ClaimPlays basis means mid.number ticket.request ticket.release) (ClaimPlays basis (files_alone means.files) mid.number ticket.request ticket.release) mid new
+    (claim-wider basis means mid.number ticket.request ticket.release) none))
 
 -- A play was stopped, and the hold that was out is given back.
 pub play-left : {did : List Entry → List Entry → Type 0} (name : Name) (lock : LockId) (request : Request) (old mid : PassView Entry) → IsPass lock name old → mid.number ≡ old.number → (t : Took name did old mid)
@@ -102,30 +103,30 @@ module _ {did : List Entry → List Entry → Type 0} (name : Name) (lock : Lock
   -- ---- the claim
 
   -- It took an entry, whose update follows.
-  pub claim-behind : (release : ReleaseRef) (note : FetchNote) (entry : ℕ) (played : Played) (new : PassView Entry) → IsFetched name.facts means.files release note → AddsOn old.number (Event.Claim old.number request note (ClaimAnswer.Entry entry)) t.met mid.seen
-      → played ≢ Played.NoMemory → Ended played (UpdatePlays name.facts name.opening means.plugins mid.number entry (past_seen mid.seen)) mid new → Ended played (ClaimPlays name.facts name.opening means old.number request release) old new
+  pub claim-behind : (release : ReleaseRef) (note : FetchNote) (entry : ℕ) (played : Played) (new : PassView Entry) → IsFetched name.basis.facts means.files release note → AddsOn old.number (Event.Claim old.number request note (ClaimAnswer.Entry entry)) t.met mid.seen
+      → played ≢ Played.NoMemory → Ended played (UpdatePlays name.basis means.plugins mid.number entry (past_seen mid.seen)) mid new → Ended played (ClaimPlays name.basis means old.number request release) old new
   claim-behind release note entry played new f a room e =
       let event : Event = Event.Claim old.number request note (ClaimAnswer.Entry entry) in
-      ended-behind played (ClaimPlays name.facts name.opening means old.number request release) (UpdatePlays name.facts name.opening means.plugins old.number entry (event ∷ past_seen t.met)) (at (past_seen t.met) event) old mid new
+      ended-behind played (ClaimPlays name.basis means old.number request release) (UpdatePlays name.basis means.plugins old.number entry (event ∷ past_seen t.met)) (at (past_seen t.met) event) old mid new
       (own-event {did = did} name lock old mid p same t event refl refl a.1) same (λ w. absurd (room w)) (λ ms u. (note, ClaimAnswer.Entry entry, refl, f, u))
-      (subst (λ (w : List Event). Ended played (UpdatePlays name.facts name.opening means.plugins old.number entry w) mid new) (past-added old.number event t.met mid.seen a.1)
-      (subst (λ (n : ℕ). Ended played (UpdatePlays name.facts name.opening means.plugins n entry (past_seen mid.seen)) mid new) same e))
+      (subst (λ (w : List Event). Ended played (UpdatePlays name.basis means.plugins old.number entry w) mid new) (past-added old.number event t.met mid.seen a.1)
+      (subst (λ (n : ℕ). Ended played (UpdatePlays name.basis means.plugins n entry (past_seen mid.seen)) mid new) same e))
 
   -- It took none, and the hold is gone.
-  pub claim-ended : (release : ReleaseRef) (note : FetchNote) (answer : ClaimAnswer) (held : Held) → IsFetched name.facts means.files release note → AfterClaim name.facts name.opening means.plugins old.number (Event.Claim old.number request note answer ∷ past_seen t.met) answer []
+  pub claim-ended : (release : ReleaseRef) (note : FetchNote) (answer : ClaimAnswer) (held : Held) → IsFetched name.basis.facts means.files release note → AfterClaim name.basis means.plugins old.number (Event.Claim old.number request note answer ∷ past_seen t.met) answer []
       → ((past : List Event) → live (Event.Claim old.number request note answer ∷ past) ≡ live past) → hold (past_seen old.seen) old.number ≡ Some held → AddsOn old.number (Event.Claim old.number request note answer) t.met mid.seen
-      → Ended Played.Done (ClaimPlays name.facts name.opening means old.number request release) old mid
+      → Ended Played.Done (ClaimPlays name.basis means old.number request release) old mid
   claim-ended release note answer held f r l h a =
       let event : Event = Event.Claim old.number request note answer in
       let free : IsFreePass mid = hold-gone {did = did} name lock old mid p same t held event (λ past. refl) l h a.1 in
-      ended-last (ClaimPlays name.facts name.opening means old.number request release) (at (past_seen t.met) event) old mid (note, answer, refl, f, r)
+      ended-last (ClaimPlays name.basis means old.number request release) (at (past_seen t.met) event) old mid (note, answer, refl, f, r)
       (did-event {did = did} name lock old mid p same t event refl refl a.1 free)
 
   -- The hold of one that was stopped is given back.
-  pub claim-left : (release : ReleaseRef) (note : FetchNote) (stop : Stop) (pending : Option ℕ) (held : Held) → IsFetched name.facts means.files release note → (stop ≡ Stop.Off → off (past_seen old.seen) ≡ true)
-      → hold (past_seen old.seen) old.number ≡ Some held → Adds old.number (Event.GiveBack old.number (back_of pending request)) t.met mid.seen → Ended (stopped_as stop) (ClaimPlays name.facts name.opening means old.number request release) old mid
+  pub claim-left : (release : ReleaseRef) (note : FetchNote) (stop : Stop) (pending : Option ℕ) (held : Held) → IsFetched name.basis.facts means.files release note → (stop ≡ Stop.Off → off (past_seen old.seen) ≡ true)
+      → hold (past_seen old.seen) old.number ≡ Some held → Adds old.number (Event.GiveBack old.number (back_of pending request)) t.met mid.seen → Ended (stopped_as stop) (ClaimPlays name.basis means old.number request release) old mid
   claim-left release note stop pending held f o h a =
-      play-left {did = did} name lock request old mid p same t (ClaimPlays name.facts name.opening means old.number request release) (at [] (Event.Claim old.number request note (ClaimAnswer.Refused Refusal.NoDevice)) ∷ [])
+      play-left {did = did} name lock request old mid p same t (ClaimPlays name.basis means old.number request release) (at [] (Event.Claim old.number request note (ClaimAnswer.Refused Refusal.NoDevice)) ∷ [])
       stop pending held (note, ClaimAnswer.Refused Refusal.NoDevice, refl, f, refl) o h a
 
   -- ---- the ask
@@ -133,32 +134,32 @@ module _ {did : List Entry → List Entry → Type 0} (name : Name) (lock : Lock
   module _ (opening : List Row) (online : request.flags.offline ≡ false) where
     -- The install goes on behind its ask.
     pub install-behind : (given : Hold) (played : Played) (new : PassView Entry) → given.ticket.request ≡ request → AddsOn old.number (Event.Ask old.number request None (AskAnswer.Hold given.blocks.count given.ticket.release)) t.met mid.seen
-        → Ended played (ClaimPlays name.facts opening means mid.number given.ticket.request given.ticket.release) mid new → Ended played (Plays name.facts opening means old.number (Item.Install request)) old new
+        → Ended played (ClaimPlays (basis_of name.basis.facts opening) means mid.number given.ticket.request given.ticket.release) mid new → Ended played (Plays (basis_of name.basis.facts opening) means old.number (Item.Install request)) old new
     install-behind given played new r a e =
         let release : ReleaseRef = given.ticket.release in
         let answer : AskAnswer = AskAnswer.Hold given.blocks.count release in
         let event : Event = Event.Ask old.number request None answer in
-        ended-behind played (Plays name.facts opening means old.number (Item.Install request)) (ClaimPlays name.facts opening means old.number request release) (at (past_seen t.met) event) old mid new
+        ended-behind played (Plays (basis_of name.basis.facts opening) means old.number (Item.Install request)) (ClaimPlays (basis_of name.basis.facts opening) means old.number request release) (at (past_seen t.met) event) old mid new
         (own-event {did = did} name lock old mid p same t event refl refl a.1) same (λ w. refl)
-        (λ ms u. online-plays name.facts opening means old.number request request.flags.offline (at (past_seen t.met) event ∷ ms) online (answer, refl, u))
-        (subst (λ (n : ℕ). Ended played (ClaimPlays name.facts opening means n request release) mid new) same
-        (subst (λ (x : Request). Ended played (ClaimPlays name.facts opening means mid.number x release) mid new) r e))
+        (λ ms u. online-plays (basis_of name.basis.facts opening) means old.number request request.flags.offline (at (past_seen t.met) event ∷ ms) online (answer, refl, u))
+        (subst (λ (n : ℕ). Ended played (ClaimPlays (basis_of name.basis.facts opening) means n request release) mid new) same
+        (subst (λ (x : Request). Ended played (ClaimPlays (basis_of name.basis.facts opening) means mid.number x release) mid new) r e))
 
     -- It ends with its ask.
-    pub install-asked : (answer : AskAnswer) → AfterAsk name.facts opening means old.number request answer [] → ((past : List Event) → holds (Event.Ask old.number request None answer ∷ past) ≡ holds past) → IsFreePass old
-        → AddsOn old.number (Event.Ask old.number request None answer) t.met mid.seen → Ended Played.Done (Plays name.facts opening means old.number (Item.Install request)) old mid
+    pub install-asked : (answer : AskAnswer) → AfterAsk (basis_of name.basis.facts opening) means old.number request answer [] → ((past : List Event) → holds (Event.Ask old.number request None answer ∷ past) ≡ holds past) → IsFreePass old
+        → AddsOn old.number (Event.Ask old.number request None answer) t.met mid.seen → Ended Played.Done (Plays (basis_of name.basis.facts opening) means old.number (Item.Install request)) old mid
     install-asked answer r h f a =
         let event : Event = Event.Ask old.number request None answer in
-        ended-last (Plays name.facts opening means old.number (Item.Install request)) (at (past_seen t.met) event) old mid
-        (online-plays name.facts opening means old.number request request.flags.offline (at (past_seen t.met) event ∷ []) online (answer, refl, r))
+        ended-last (Plays (basis_of name.basis.facts opening) means old.number (Item.Install request)) (at (past_seen t.met) event) old mid
+        (online-plays (basis_of name.basis.facts opening) means old.number request request.flags.offline (at (past_seen t.met) event ∷ []) online (answer, refl, r))
         (did-quiet {did = did} name lock old mid p same t event (record { no_boot = refl; own_is = refl; same_holds = h; same_live = λ past. refl }) f a)
 
     -- It was stopped at its ask.
-    pub install-stopped : {A : Type 0} (ask : A → Event) (stop : Stop) → IsFreePass old → TurnedIn old.number ask (Err stop) t.met mid.seen → Ended (stopped_as stop) (Plays name.facts opening means old.number (Item.Install request)) old mid
+    pub install-stopped : {A : Type 0} (ask : A → Event) (stop : Stop) → IsFreePass old → TurnedIn old.number ask (Err stop) t.met mid.seen → Ended (stopped_as stop) (Plays (basis_of name.basis.facts opening) means old.number (Item.Install request)) old mid
     install-stopped ask stop f s =
-        let P : List Moment → Type 0 = λ ms. Plays name.facts opening means old.number (Item.Install request) ms in
+        let P : List Moment → Type 0 = λ ms. Plays (basis_of name.basis.facts opening) means old.number (Item.Install request) ms in
         let some : List Moment = at [] (Event.Ask old.number request None (AskAnswer.Refused Refusal.NoDevice)) ∷ [] in
         ended-stopped stop P old mid
-        (leaves-nothing old.number P some (online-plays name.facts opening means old.number request request.flags.offline some online (AskAnswer.Refused Refusal.NoDevice, refl, refl)))
+        (leaves-nothing old.number P some (online-plays (basis_of name.basis.facts opening) means old.number request request.flags.offline some online (AskAnswer.Refused Refusal.NoDevice, refl, refl)))
         (stopped-off old.number ask stop t.met mid.seen s)
         (stopped-did {did = did} name lock old mid p same t ask stop f s)

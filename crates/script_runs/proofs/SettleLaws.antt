@@ -77,10 +77,10 @@ found-on rows (Some view) entry e = found-view rows view entry (is_home view.see
 
 -- A row that was judged is of the device found, in the log that the turn met.
 judges-found : (name : Name) (client : ℕ) (device : Selector) (met : List Entry) (entry : ℕ) (version : List ℕ) (state : RowState) (stored : Stored) → device_in name met device ≡ DeviceRow.Waiting entry
-    → JudgesFound name.facts name.opening client device (at (past_seen met) (Event.Judge client entry version state stored))
+    → JudgesFound name.basis client device (at (past_seen met) (Event.Judge client entry version state stored))
 judges-found name client device met entry version state stored e =
-    let f : RowFound (rows name.facts name.opening (past_seen met)) (found_view (views name.facts name.opening (past_seen met)) device) entry =
-    found-on (rows name.facts name.opening (past_seen met)) (found_view (views name.facts name.opening (past_seen met)) device) entry e in
+    let f : RowFound (rows name.basis (past_seen met)) (found_view (views name.basis (past_seen met)) device) entry =
+    found-on (rows name.basis (past_seen met)) (found_view (views name.basis (past_seen met)) device) entry e in
     record {
       entry = entry;
       version = version;
@@ -97,7 +97,7 @@ quiet-judge client entry version state stored = record { no_boot = refl; own_is 
 
 module _ (name : Name) (lock : LockId) (old new : PassView Entry) (p : IsPass lock name old) (same : new.number ≡ old.number) (free : IsFreePass old) (device : Selector) (means : Means) where
   abbrev Settles : List Moment → Type 0
-  Settles = Plays name.facts name.opening means old.number (Item.Settle device)
+  Settles = Plays name.basis means old.number (Item.Settle device)
 
   -- The question alone.
   asked-only : {did : List Entry → List Entry → Type 0} (t : Took name did old new) → AddsOn old.number (Event.Query old.number (Query.Settle device)) t.met new.seen → Ended Played.Done Settles old new
@@ -113,9 +113,9 @@ module _ (name : Name) (lock : LockId) (old new : PassView Entry) (p : IsPass lo
   settle-so (Ok (Settling.Waits entry)) t = asked-only {did = SettledIn name old.number device (Ok (Settling.Waits entry))} t t.does.2
   settle-so (Ok Settling.Nothing) t = asked-only {did = SettledIn name old.number device (Ok Settling.Nothing)} t t.does.1
   settle-so (Err Stop.Off) t =
-      ended-off {did = SettledIn name old.number device (Err Stop.Off)} name lock old new p same free t Settles (item-unplayed name.facts name.opening means old.number (Item.Settle device)) t.does
+      ended-off {did = SettledIn name old.number device (Err Stop.Off)} name lock old new p same free t Settles (item-unplayed name.basis means old.number (Item.Settle device)) t.does
   settle-so (Err Stop.NoMemory) t =
-      ended-wanting {did = SettledIn name old.number device (Err Stop.NoMemory)} name lock old new p same free t Settles (item-unplayed name.facts name.opening means old.number (Item.Settle device)) t.does
+      ended-wanting {did = SettledIn name old.number device (Err Stop.NoMemory)} name lock old new p same free t Settles (item-unplayed name.basis means old.number (Item.Settle device)) t.does
 
   pub settle-ended : (outcome : Result Settling Stop) (told : Played) → told ≡ played_of outcome → Took name (SettledIn name old.number device outcome) old new → Ended told Settles old new
   settle-ended outcome told e t = ended-told told (played_of outcome) Settles old new e (settle-so outcome t)

@@ -2,12 +2,10 @@
 use Rattle.std.proofs.Common.{◌≡◌, ℕ, true, List, [], ◌∷◌, refl, sym, subst}
 use Rattle.std.specs.Prelude.{Result, Ok, Err, MatchBool}
 use Rattle.device_list.specs.declared.selector.Selector.{Selector}
-use Rattle.history_keeper.specs.declared.row.Row.{Row}
 use Rattle.update_log.specs.declared.answer.ClaimAnswer.{ClaimAnswer}
 use Rattle.update_log.specs.declared.answer.PlugAnswer.{PlugAnswer}
 use Rattle.update_log.specs.declared.event.Event.{Event}
 use Rattle.update_log.specs.declared.event.Query.{Query}
-use Rattle.update_log.specs.declared.facts.Facts.{Facts}
 use Rattle.update_log.specs.declared.request.Request.{Request}
 use Rattle.daemon_core.specs.declared.stop.Stop.{Stop}
 use Rattle.client_scripts.specs.declared.item.Item.{Item}
@@ -29,6 +27,7 @@ use Rattle.shared_daemon.specs.Questions.{MayAsk}
 use Rattle.claim_runs.proofs.Kept.{off-seen}
 use Rattle.script_runs.specs.Passes.{Ended}
 use Rattle.script_runs.proofs.DidLaws.{IsQuiet, did-none, did-off, did-quiet}
+use Rattle.update_log.specs.Known.{Basis}
 
 -- A question of a script may be asked at any time.
 pub may-ask : (query : Query) → IsQuestion query → MayAsk query
@@ -49,9 +48,9 @@ pub quiet-plug : (client : ℕ) (device : Selector) (answer : PlugAnswer) → Is
 quiet-plug client device answer = record { no_boot = refl; own_is = refl; same_holds = λ past. refl; same_live = λ past. refl }
 
 -- An install that is put off.
-schedule-plays : (facts : Facts) (opening : List Row) (means : Means) (client : ℕ) (request : Request) (before : List Event) (answer : ClaimAnswer) → request.flags.offline ≡ true
-    → MatchBool request.flags.offline (Alone (SchedulePlays client request) (at before (Event.Schedule client request answer) ∷ [])) (InstallPlays facts opening means client request (at before (Event.Schedule client request answer) ∷ []))
-schedule-plays facts opening means client request before answer e = rw e (answer, refl)
+schedule-plays : (basis : Basis) (means : Means) (client : ℕ) (request : Request) (before : List Event) (answer : ClaimAnswer) → request.flags.offline ≡ true
+    → MatchBool request.flags.offline (Alone (SchedulePlays client request) (at before (Event.Schedule client request answer) ∷ [])) (InstallPlays basis means client request (at before (Event.Schedule client request answer) ∷ []))
+schedule-plays basis means client request before answer e = rw e (answer, refl)
 
 -- A turn.
 module _ {did : List Entry → List Entry → Type 0} (name : Name) (lock : LockId) (old new : PassView Entry) (p : IsPass lock name old) (same : new.number ≡ old.number) (free : IsFreePass old) (t : Took name did old new) where
@@ -84,43 +83,43 @@ module _ (name : Name) (lock : LockId) (old new : PassView Entry) (p : IsPass lo
 
   -- A question.
   pub question-ended : (query : Query) (outcome : Result (Unit {0}) Stop) (told : Played) (means : Means) → told ≡ played_of outcome → Took name (TurnedIn old.number (λ _. Event.Query old.number query) outcome) old new
-      → Ended told (Plays name.facts name.opening means old.number (Item.Ask query)) old new
+      → Ended told (Plays name.basis means old.number (Item.Ask query)) old new
   question-ended query outcome told means e t =
-      let Play : List Moment → Type 0 = Plays name.facts name.opening means old.number (Item.Ask query) in
+      let Play : List Moment → Type 0 = Plays name.basis means old.number (Item.Ask query) in
       ended-told told (played_of outcome) Play old new e
       (turn-any (λ (_ : Unit {0}). Event.Query old.number query) Play outcome (λ _. quiet-query old.number query) (λ _ before. refl)
-      (item-unplayed name.facts name.opening means old.number (Item.Ask query)) t)
+      (item-unplayed name.basis means old.number (Item.Ask query)) t)
 
   -- An install that is put off.
   pub schedule-ended : (request : Request) (outcome : Result ClaimAnswer Stop) (told : Played) (means : Means) → told ≡ played_of outcome → request.flags.offline ≡ true → Took name (TurnedIn old.number (λ answer. Event.Schedule old.number request answer) outcome) old new
-      → Ended told (Plays name.facts name.opening means old.number (Item.Install request)) old new
+      → Ended told (Plays name.basis means old.number (Item.Install request)) old new
   schedule-ended request outcome told means e off t =
-      let Play : List Moment → Type 0 = Plays name.facts name.opening means old.number (Item.Install request) in
+      let Play : List Moment → Type 0 = Plays name.basis means old.number (Item.Install request) in
       ended-told told (played_of outcome) Play old new e
       (turn-any (λ (answer : ClaimAnswer). Event.Schedule old.number request answer) Play outcome (λ answer. quiet-schedule old.number request answer)
-      (λ answer before. schedule-plays name.facts name.opening means old.number request before answer off)
-      (item-unplayed name.facts name.opening means old.number (Item.Install request)) t)
+      (λ answer before. schedule-plays name.basis means old.number request before answer off)
+      (item-unplayed name.basis means old.number (Item.Install request)) t)
 
   -- A device that is unplugged, or plugged.
   pub unplug-ended : (device : Selector) (outcome : Result PlugAnswer Stop) (told : Played) (means : Means) → told ≡ played_of outcome → Took name (TurnedIn old.number (λ answer. Event.Unplug old.number device answer) outcome) old new
-      → Ended told (Plays name.facts name.opening means old.number (Item.Unplug device)) old new
+      → Ended told (Plays name.basis means old.number (Item.Unplug device)) old new
   unplug-ended device outcome told means e t =
-      let Play : List Moment → Type 0 = Plays name.facts name.opening means old.number (Item.Unplug device) in
+      let Play : List Moment → Type 0 = Plays name.basis means old.number (Item.Unplug device) in
       ended-told told (played_of outcome) Play old new e
       (turn-any (λ (answer : PlugAnswer). Event.Unplug old.number device answer) Play outcome (λ answer. quiet-unplug old.number device answer) (λ answer before. (answer, refl))
-      (item-unplayed name.facts name.opening means old.number (Item.Unplug device)) t)
+      (item-unplayed name.basis means old.number (Item.Unplug device)) t)
 
   pub plug-ended : (device : Selector) (outcome : Result PlugAnswer Stop) (told : Played) (means : Means) → told ≡ played_of outcome → Took name (TurnedIn old.number (λ answer. Event.Plug old.number device answer) outcome) old new
-      → Ended told (Plays name.facts name.opening means old.number (Item.Plug device)) old new
+      → Ended told (Plays name.basis means old.number (Item.Plug device)) old new
   plug-ended device outcome told means e t =
-      let Play : List Moment → Type 0 = Plays name.facts name.opening means old.number (Item.Plug device) in
+      let Play : List Moment → Type 0 = Plays name.basis means old.number (Item.Plug device) in
       ended-told told (played_of outcome) Play old new e
       (turn-any (λ (answer : PlugAnswer). Event.Plug old.number device answer) Play outcome (λ answer. quiet-plug old.number device answer) (λ answer before. (answer, refl))
-      (item-unplayed name.facts name.opening means old.number (Item.Plug device)) t)
+      (item-unplayed name.basis means old.number (Item.Plug device)) t)
 
 -- A play of an item that needs no plugin, whatever files the shelf has, where that is the item.
-pub ended-for : (facts : Facts) (opening : List Row) (means : Means) (client : ℕ) (item now : Item) (told : Played) (old new : PassView Entry) → now ≡ item → ((any : Files) → Ended told (Plays facts opening (files_alone any) client item) old new)
-    → Ended told (Plays facts opening means client now) old new
-ended-for facts opening means client item now told old new e k =
-    subst (λ (i : Item). Ended told (Plays facts opening means client i) old new) (sym e)
-    (ended-wider told (Plays facts opening means client item) (Plays facts opening (files_alone means.files) client item) old new (item-wider facts opening means client item) (k means.files))
+pub ended-for : (basis : Basis) (means : Means) (client : ℕ) (item now : Item) (told : Played) (old new : PassView Entry) → now ≡ item → ((any : Files) → Ended told (Plays basis (files_alone any) client item) old new)
+    → Ended told (Plays basis means client now) old new
+ended-for basis means client item now told old new e k =
+    subst (λ (i : Item). Ended told (Plays basis means client i) old new) (sym e)
+    (ended-wider told (Plays basis means client item) (Plays basis (files_alone means.files) client item) old new (item-wider basis means client item) (k means.files))

@@ -154,8 +154,8 @@ module _ (name : Name) (lock : LockId) (by : PluginSteps) (entry : ℕ) (was : P
       }
 
 -- The plugin of its board made the steps, so it is its update.
-pub update-ended : (name : Name) (plugins : ℕ → PluginSteps) (taken : Taken) (played : Played) (old new : PassView Entry) → RunsSeen name old.number (parts_taken taken) None old.seen → IsOwnPlugin name.facts name.opening (past_seen old.seen) taken.entry taken.plugin
-    → Ended played (StepsPlay (plugins taken.plugin) old.number taken.entry taken.payload taken.board) old new → Ended played (UpdatePlays name.facts name.opening plugins old.number taken.entry (past_seen old.seen)) old new
+pub update-ended : (name : Name) (plugins : ℕ → PluginSteps) (taken : Taken) (played : Played) (old new : PassView Entry) → RunsSeen name old.number (parts_taken taken) None old.seen → IsOwnPlugin name.basis (past_seen old.seen) taken.entry taken.plugin
+    → Ended played (StepsPlay (plugins taken.plugin) old.number taken.entry taken.payload taken.board) old new → Ended played (UpdatePlays name.basis plugins old.number taken.entry (past_seen old.seen)) old new
 update-ended name plugins taken played old new r own e =
-    ended-wider played (UpdatePlays name.facts name.opening plugins old.number taken.entry (past_seen old.seen)) (StepsPlay (plugins taken.plugin) old.number taken.entry taken.payload taken.board) old new
-    (runs-update name.facts name.first name.opening (past_seen old.seen) plugins old.number taken.plugin (parts_taken taken) r.number r.l r.runs own) e
+    ended-wider played (UpdatePlays name.basis plugins old.number taken.entry (past_seen old.seen)) (StepsPlay (plugins taken.plugin) old.number taken.entry taken.payload taken.board) old new
+    (runs-update name.basis name.first (past_seen old.seen) plugins old.number taken.plugin (parts_taken taken) r.number r.l r.runs own) e

@@ -1,8 +1,8 @@
 -- What a client did by its pass: told by the log that the pass saw before, and by the one that it sees now.
-use Rattle.std.specs.Prelude.{◌≡◌, Bool, List, ◌++◌, Option}
+use Rattle.std.specs.Prelude.{◌≡◌, Bool, true, List, ◌++◌, Option, Some, None}
 use Rattle.update_log.specs.Pasts.{off}
 use Rattle.client_plays.specs.declared.played.Played.{Played}
-use Rattle.client_plays.specs.Endings.{EndsSo, OnceMore}
+use Rattle.client_plays.specs.Endings.{EndsSo}
 use Rattle.client_plays.specs.Moments.{Moment, mine}
 use Rattle.client_plays.specs.Scripts.{PlayedSo, PlaysAll}
 use Rattle.turn_lock.specs.Shown.{PassView}
@@ -26,12 +26,11 @@ pub record Ended (played : Played) (Play : List Moment → Type 0) (old new : Pa
   pub did : Did moments old new
   pub ends : EndsSo played old.number Play (past_seen new.seen) moments
 
--- What a client did who played one thing more: it was played; or it was left for want of memory, and
--- that is told; or it was left in a boot that is off.
-pub record EndedMore (told : Option Bool) (wanting : Bool) (Play : List Moment → Type 0) (old new : PassView Entry) : Type 0 where
-  pub moments : List Moment
-  pub did : Did moments old new
-  pub more : OnceMore told wanting old.number Play (past_seen new.seen) moments
+-- What is told of a play: whether memory was wanting so far, or nothing where the boot is off.
+abbrev pub told_of : Played → Bool → Option Bool
+told_of Played.Done wanting = Some wanting
+told_of Played.NoMemory wanting = Some true
+told_of Played.Off wanting = None
 
 -- What a client has done so far who goes through a list of things.
 pub record SoFar {X : Type 0} (wanting : Bool) (Play : X → List Moment → Type 0) (done : List X) (old new : PassView Entry) : Type 0 where

@@ -11,4 +11,4 @@ mod playing;
 mod scripting;
 
 pub use installing::{run_taken, stopped_by};
-pub use scripting::play_script;
+pub use scripting::{play_script, told};

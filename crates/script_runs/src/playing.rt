@@ -8,11 +8,13 @@ ghost use Rattle.shared_daemon.specs.Closings.{IsFreePass};
 ghost use Rattle.shared_daemon.specs.Names.{IsPass};
 ghost use Rattle.script_runs.specs.Passes.{Ended};
 
+use claim_runs::Runner;
 use client_plays::Played;
 use daemon_core::Stop;
 use device_list::Selector;
 use history_keeper::Keeper;
-use shared_daemon::{Daemon, Naming, Pass};
+use outer_traits::Gate;
+use shared_daemon::{Naming, Pass};
 use std::sync::Wait;
 use update_log::{Query, Request};
 
@@ -28,83 +30,78 @@ fn played<T: Drop>(outcome: Result<T, Stop>) -> Played
 }
 
 /// Asks a question.
-pub(crate) fn play_question<R: Wait, K: Keeper, N: Naming>(
-    rt: &R,
-    daemon: &Daemon<K, N>,
+pub(crate) fn play_question<R: Wait, K: Keeper, N: Naming, G: Gate>(
+    runner: &Runner<R, K, N, G>,
     pass: &mut Pass,
     query: &Query,
 ) -> Played
-    requires pass { IsPass daemon.now.id N.name pass.old }
+    requires pass { IsPass runner.now.daemon.now.id N.name pass.old }
     requires free { IsFreePass pass.old }
     requires question { IsQuestion query.now }
-    ensures pass { IsPass daemon.now.id N.name pass.new }
-    ensures ended { (files : Files) → Ended result (Plays N.name.facts N.name.opening (files_alone files) pass.old.number (Item.Ask query.now)) pass.old pass.new }
+    ensures pass { IsPass runner.now.daemon.now.id N.name pass.new }
+    ensures ended { (files : Files) → Ended result (Plays N.name.basis (files_alone files) pass.old.number (Item.Ask query.now)) pass.old pass.new }
 {
-    let outcome = daemon.query(rt, pass, query);
+    let outcome = runner.daemon.query(runner.rt, pass, query);
     played(outcome)
 }
 
 /// Puts an install off to the next boot.
-pub(crate) fn play_schedule<R: Wait, K: Keeper, N: Naming>(
-    rt: &R,
-    daemon: &Daemon<K, N>,
+pub(crate) fn play_schedule<R: Wait, K: Keeper, N: Naming, G: Gate>(
+    runner: &Runner<R, K, N, G>,
     pass: &mut Pass,
     request: &Request,
 ) -> Played
-    requires pass { IsPass daemon.now.id N.name pass.old }
+    requires pass { IsPass runner.now.daemon.now.id N.name pass.old }
     requires free { IsFreePass pass.old }
     requires offline { request.now.flags.offline ≡ true }
-    ensures pass { IsPass daemon.now.id N.name pass.new }
-    ensures ended { (files : Files) → Ended result (Plays N.name.facts N.name.opening (files_alone files) pass.old.number (Item.Install request.now)) pass.old pass.new }
+    ensures pass { IsPass runner.now.daemon.now.id N.name pass.new }
+    ensures ended { (files : Files) → Ended result (Plays N.name.basis (files_alone files) pass.old.number (Item.Install request.now)) pass.old pass.new }
 {
-    let outcome = daemon.schedule(rt, pass, request);
+    let outcome = runner.daemon.schedule(runner.rt, pass, request);
     played(outcome)
 }
 
 /// Has the open row of a device judged.
-pub(crate) fn play_settle<R: Wait, K: Keeper, N: Naming>(
-    rt: &R,
-    daemon: &Daemon<K, N>,
+pub(crate) fn play_settle<R: Wait, K: Keeper, N: Naming, G: Gate>(
+    runner: &Runner<R, K, N, G>,
     pass: &mut Pass,
     device: &Selector,
 ) -> Played
-    requires pass { IsPass daemon.now.id N.name pass.old }
+    requires pass { IsPass runner.now.daemon.now.id N.name pass.old }
     requires free { IsFreePass pass.old }
-    ensures pass { IsPass daemon.now.id N.name pass.new }
-    ensures ended { (files : Files) → Ended result (Plays N.name.facts N.name.opening (files_alone files) pass.old.number (Item.Settle device.now)) pass.old pass.new }
+    ensures pass { IsPass runner.now.daemon.now.id N.name pass.new }
+    ensures ended { (files : Files) → Ended result (Plays N.name.basis (files_alone files) pass.old.number (Item.Settle device.now)) pass.old pass.new }
 {
-    let outcome = daemon.settle(rt, pass, device);
+    let outcome = runner.daemon.settle(runner.rt, pass, device);
     played(outcome)
 }
 
 /// Takes a device out of its port.
-pub(crate) fn play_unplug<R: Wait, K: Keeper, N: Naming>(
-    rt: &R,
-    daemon: &Daemon<K, N>,
+pub(crate) fn play_unplug<R: Wait, K: Keeper, N: Naming, G: Gate>(
+    runner: &Runner<R, K, N, G>,
     pass: &mut Pass,
     device: &Selector,
 ) -> Played
-    requires pass { IsPass daemon.now.id N.name pass.old }
+    requires pass { IsPass runner.now.daemon.now.id N.name pass.old }
     requires free { IsFreePass pass.old }
-    ensures pass { IsPass daemon.now.id N.name pass.new }
-    ensures ended { (files : Files) → Ended result (Plays N.name.facts N.name.opening (files_alone files) pass.old.number (Item.Unplug device.now)) pass.old pass.new }
+    ensures pass { IsPass runner.now.daemon.now.id N.name pass.new }
+    ensures ended { (files : Files) → Ended result (Plays N.name.basis (files_alone files) pass.old.number (Item.Unplug device.now)) pass.old pass.new }
 {
-    let outcome = daemon.unplug(rt, pass, device);
+    let outcome = runner.daemon.unplug(runner.rt, pass, device);
     played(outcome)
 }
 
 /// Puts a device back into its port.
-pub(crate) fn play_plug<R: Wait, K: Keeper, N: Naming>(
-    rt: &R,
-    daemon: &Daemon<K, N>,
+pub(crate) fn play_plug<R: Wait, K: Keeper, N: Naming, G: Gate>(
+    runner: &Runner<R, K, N, G>,
     pass: &mut Pass,
     device: &Selector,
 ) -> Played
-    requires pass { IsPass daemon.now.id N.name pass.old }
+    requires pass { IsPass runner.now.daemon.now.id N.name pass.old }
     requires free { IsFreePass pass.old }
-    ensures pass { IsPass daemon.now.id N.name pass.new }
-    ensures ended { (files : Files) → Ended result (Plays N.name.facts N.name.opening (files_alone files) pass.old.number (Item.Plug device.now)) pass.old pass.new }
+    ensures pass { IsPass runner.now.daemon.now.id N.name pass.new }
+    ensures ended { (files : Files) → Ended result (Plays N.name.basis (files_alone files) pass.old.number (Item.Plug device.now)) pass.old pass.new }
 {
-    let outcome = daemon.plug(rt, pass, device);
+    let outcome = runner.daemon.plug(runner.rt, pass, device);
     played(outcome)
 }

@@ -6,6 +6,7 @@ use Rattle.device_list.specs.declared.selector.Selector.{Selector}
 use Rattle.emulated_boards.specs.Boards.{BoardState}
 use Rattle.fw_facts.specs.declared.view.DeviceView.{DeviceView}
 use Rattle.history_keeper.specs.declared.row.Row.{Row}
+use Rattle.history_keeper.specs.Signs.{KeeperSigns}
 use Rattle.update_log.specs.declared.event.Event.{Event}
 use Rattle.update_log.specs.declared.event.Query.{Query}
 use Rattle.update_log.specs.Known.{row_of, rows, views}
@@ -17,10 +18,9 @@ use Rattle.daemon_core.specs.declared.judged.Settling.{Settling}
 use Rattle.daemon_core.specs.declared.stop.Stop.{Stop}
 use Rattle.daemon_core.specs.HouseLog.{Appended, IsHouseLog, Runs, Unchanged}
 use Rattle.daemon_core.specs.Finishes.{FinishedSo}
-use Rattle.daemon_core.specs.Housed.{HouseLogView, Housed, past, past_in, rows_before}
+use Rattle.daemon_core.specs.Housed.{basis_in, HouseLogView, Housed, past, past_in}
 use Rattle.daemon_core.specs.Judging.{JudgeTurned, standing, standing_of}
 use Rattle.daemon_core.specs.Settling.{SettleTurned, device_row, row_to_settle}
-use Rattle.daemon_core.specs.Turns.{Signs}
 use Rattle.turn_lock.specs.Lists.{AddsAtMostOne}
 use Rattle.shared_daemon.specs.declared.entry.Entry.{Entry}
 use Rattle.shared_daemon.specs.Calls.{AddsNone, AddsOn, FinishedIn, JudgedIn, SettledIn, device_in, standing_in}
@@ -52,20 +52,20 @@ finished-adds client entry board payload (Ok finished) met log f = adds-on clien
 finished-adds client entry board payload (Err stop) met log f = adds-off client met log f.0
 
 -- Judgements.
-module _ {K : Type 0} (signs : Signs K) (name : Name) (h : Housed K) where
+module _ {K : Type 0} (signs : KeeperSigns K) (name : Name) (h : Housed K) where
   pub standing-met : (entry : ℕ) → KeepsName signs name h → IsHouseLog h.house_log → standing_of h.house_log entry ≡ standing_in name (chronicle h) entry
   standing-met entry n k =
-      to-name signs name h n k (λ f s o p. standing_of h.house_log entry ≡ option_map (standing p (views f o p) entry) (row_of (rows f o p) entry))
+      to-name signs name h n k (λ base s p. standing_of h.house_log entry ≡ option_map (standing p (views base p) entry) (row_of (rows base p) entry))
       (ap (λ (v : List DeviceView). option_map (standing (past h) v entry) (row_of h.house_log.core.rows entry)) k.stands.views
-      ∙ ap (λ (r : List Row). option_map (standing (past h) (views h.house_log.facts (rows_before h.house_log) (past h)) entry) (row_of r entry)) k.stands.rows)
+      ∙ ap (λ (r : List Row). option_map (standing (past h) (views (basis_in h.house_log) (past h)) entry) (row_of r entry)) k.stands.rows)
 
   pub device-met : (device : Selector) → KeepsName signs name h → IsHouseLog h.house_log → row_to_settle h.house_log device ≡ device_in name (chronicle h) device
   device-met device n k =
-      to-name signs name h n k (λ f s o p. row_to_settle h.house_log device ≡ device_row (views f o p) (rows f o p) device)
+      to-name signs name h n k (λ base s p. row_to_settle h.house_log device ≡ device_row (views base p) (rows base p) device)
       (ap (λ (v : List DeviceView). device_row v h.house_log.core.rows device) k.stands.views
-      ∙ ap (λ (r : List Row). device_row (views h.house_log.facts (rows_before h.house_log) (past h)) r device) k.stands.rows)
+      ∙ ap (λ (r : List Row). device_row (views (basis_in h.house_log) (past h)) r device) k.stands.rows)
 
-pub judged-in : {K : Type 0} (signs : Signs K) (name : Name) (client entry : ℕ) (result : Result Judged Stop) (old new : Housed K) → KeepsName signs name old → IsHouseLog old.house_log → JudgeTurned client entry result old.house_log new.house_log
+pub judged-in : {K : Type 0} (signs : KeeperSigns K) (name : Name) (client entry : ℕ) (result : Result Judged Stop) (old new : Housed K) → KeepsName signs name old → IsHouseLog old.house_log → JudgeTurned client entry result old.house_log new.house_log
     → JudgedIn name client entry result (chronicle old) (chronicle new)
 judged-in signs name client entry (Ok (Judged.Done state stored)) old new n k j = (
   j.1.0,
@@ -91,7 +91,7 @@ judged-adds name client entry (Err Stop.NoMemory) met log j = adds-none client m
 judged-adds name client entry _ met log j = adds-none client met log j.1
 
 -- Devices that are settled.
-pub settled-in : {K : Type 0} (signs : Signs K) (name : Name) (client : ℕ) (device : Selector) (result : Result Settling Stop) (old new : Housed K) → KeepsName signs name old → IsHouseLog old.house_log → SettleTurned client device result old.house_log new.house_log
+pub settled-in : {K : Type 0} (signs : KeeperSigns K) (name : Name) (client : ℕ) (device : Selector) (result : Result Settling Stop) (old new : Housed K) → KeepsName signs name old → IsHouseLog old.house_log → SettleTurned client device result old.house_log new.house_log
     → SettledIn name client device result (chronicle old) (chronicle new)
 settled-in signs name client device (Ok (Settling.Judged entry state stored)) old new n k j = (
   sym (device-met signs name old device n k) ∙ j.1,

@@ -1,21 +1,19 @@
 -- How a daemon begins, and what is left as it ends.
 use Rattle.std.proofs.Common.{All, ◌≡◌, ℕ, ◌<◌, ◌≤◌, ◌+◌, suc, eqb, true, false, List, [], ◌∷◌, length, map, get_or, refl, ap, sym, ◌∙◌, subst, ⊎_elim, append-nil, zero-add, arith}
-use Rattle.std.specs.Prelude.{Option, None, Some}
+use Rattle.std.specs.Prelude.{None, Some}
 use Rattle.std.specs.List.{list_any, range_with_len}
 use Rattle.std.proofs.lemmas.Bool.{cases_lt}
 use Rattle.std.proofs.lemmas.List.{get_or-map}
 use Rattle.std.proofs.lemmas.List.FromFn.{get_or-range_with_len, length-range_with_len}
+use Rattle.history_keeper.specs.Signs.{KeeperSigns}
 use Rattle.update_log.specs.declared.live.Held.{Held}
 use Rattle.update_log.specs.declared.live.LiveEntry.{LiveEntry}
-use Rattle.history_keeper.specs.declared.change.Change.{Change}
-use Rattle.history_keeper.specs.declared.row.Row.{Row}
 use Rattle.update_log.specs.Holding.{blocks_out, held, hold_of, holds, live}
 use Rattle.update_log.specs.Legal.{IsFree}
 use Rattle.daemon_core.specs.HouseLog.{IsHouseLog}
 use Rattle.daemon_core.specs.House.{IsHouse}
 use Rattle.daemon_core.specs.Housed.{Housed, past}
 use Rattle.daemon_core.specs.Parts.{AllHome}
-use Rattle.daemon_core.specs.Turns.{Signs}
 use Rattle.daemon_core.proofs.PartsKept.{house-home}
 use Rattle.turn_lock.specs.Lists.{BeginsWith, beyond, made_by}
 use Rattle.turn_lock.specs.Shown.{HasItsEntries, IsFresh, IsReady, LockId, PassView, new_pass}
@@ -30,7 +28,7 @@ use Rattle.shared_daemon.proofs.Others.{free-stays}
 use Rattle.shared_daemon.proofs.Seeing.{log-named, others-since, stays}
 
 -- A house whose log is that of its name as the daemon begins.
-pub start-named : {K : Type 0} (signs : Signs K) (name : Name) (h : Housed K) → KeepsName signs name h → IsHouseLog h.house_log → chronicle h ≡ name.start → IsLogOf name name.start
+pub start-named : {K : Type 0} (signs : KeeperSigns K) (name : Name) (h : Housed K) → KeepsName signs name h → IsHouseLog h.house_log → chronicle h ≡ name.start → IsLogOf name name.start
 start-named signs name h n k e =
     subst (λ (l : List Entry). IsLogOf name l) e
     (log-named signs name h n k ([], e ∙ sym (append-nil name.start)))
@@ -83,13 +81,13 @@ module _ (name : Name) (log : List Entry) where
   pass-free : (lock : LockId) (pass : PassView Entry) → IsLogOf name log → IsPass lock name pass → IsFreePass pass → BeginsWith log pass.seen → HasItsEntries maker_of name.start log pass → IsFree (past_seen log) pass.number
   pass-free lock pass l p f b m =
       let met : Meets name pass.number pass.seen log = record { begins = b; others = others-since name pass.number pass.seen log p.log b (sym p.mine ∙ m); log = l } in
-      free-stays name.facts name.first name.opening pass.number (past_seen pass.seen) (past_seen log) (stays name pass.number pass.seen log p.log met) f
+      free-stays name.basis name.first pass.number (past_seen pass.seen) (past_seen log) (stays name pass.number pass.seen log p.log met) f
 
   -- One that has no pass.
   stranger-free : (seats client : ℕ) → IsLogOf name log → IsLogOf name name.start → HasNothing name.start → All (λ (e : Entry). maker_of e < seats) (beyond name.start log) → seats ≤ client → IsFree (past_seen log) client
   stranger-free seats client l s nothing makers high =
       let met : Meets name client name.start log = record { begins = l.begins; others = made_by-past maker_of seats client (beyond name.start log) high makers; log = l } in
-      free-stays name.facts name.first name.opening client (past_seen name.start) (past_seen log) (stays name client name.start log s met)
+      free-stays name.basis name.first client (past_seen name.start) (past_seen log) (stays name client name.start log s met)
       (record { hold = ap (λ (h : List Held). hold_of h client) nothing.0; live = ap (λ (x : List LiveEntry). list_any (λ (e : LiveEntry). eqb e.client client) x) nothing.1 })
 
   number-at : (passes : List (PassView Entry)) (seats client : ℕ) (d : PassView Entry) → map (λ (p : PassView Entry). p.number) passes ≡ range_with_len 0 seats → client < length passes → client < seats → (get_or passes client d).number ≡ client
@@ -116,9 +114,9 @@ module _ (name : Name) (log : List Entry) where
       )
 
 -- Where nothing is out, all boards are at home and all blocks are free.
-pub home-left : {K : Type 0} (told : K → List Row → Type 0) (doubted : K → Option Change) (h : Housed K) → IsHouseLog h.house_log → IsHouse told doubted h → HasNothing (chronicle h) → AllHome h.places
-home-left told doubted h k w n =
-    house-home told doubted h w (ap live (sym (past-entries h.house_log k)) ∙ n.1)
+pub home-left : {K : Type 0} (signs : KeeperSigns K) (h : Housed K) → IsHouseLog h.house_log → IsHouse signs h → HasNothing (chronicle h) → AllHome h.places
+home-left signs h k w n =
+    house-home signs h w (ap live (sym (past-entries h.house_log k)) ∙ n.1)
 
 nothing-held : {K : Type 0} (h : Housed K) → IsHouseLog h.house_log → HasNothing (chronicle h) → held (past h) ≡ 0
 nothing-held h k n =
@@ -126,8 +124,8 @@ nothing-held h k n =
     ∙ ap (λ (hs : List Held). blocks_out hs (live (past_seen (chronicle h)))) n.0
     ∙ ap (λ (ls : List LiveEntry). blocks_out [] ls) n.1
 
-pub free-left : {K : Type 0} (told : K → List Row → Type 0) (doubted : K → Option Change) (h : Housed K) → IsHouseLog h.house_log → IsHouse told doubted h → HasNothing (chronicle h) → h.pool.free ≡ h.house_log.facts.pool
-free-left told doubted h k w n =
+pub free-left : {K : Type 0} (signs : KeeperSigns K) (h : Housed K) → IsHouseLog h.house_log → IsHouse signs h → HasNothing (chronicle h) → h.pool.free ≡ h.house_log.facts.pool
+free-left signs h k w n =
     let none : held (past h) ≡ 0 = nothing-held h k n in
     let all : h.pool.free + held (past h) ≡ h.house_log.facts.pool = w.free in
     omega (arith, none, all)

@@ -1,6 +1,7 @@
 -- A house keeps its name over every call.
 use Rattle.std.proofs.Common.{◌≡◌, ◌⊎◌, ℕ, ◌≤◌, ◌+◌, ◌-◌, ◌^◌, true, false, List, ◌∷◌, refl, ap, sym, ◌∙◌, inl, inr, ⊎_elim, arith}
 use Rattle.std.specs.Prelude.{Result, Ok, Err}
+use Rattle.history_keeper.specs.Signs.{KeeperSigns}
 use Rattle.update_log.specs.declared.event.Event.{Event}
 use Rattle.update_log.specs.Pasts.{boots, is_boot, meets_fault, off, past_of}
 use Rattle.daemon_core.specs.declared.off.Off.{Off}
@@ -9,7 +10,7 @@ use Rattle.daemon_core.specs.HouseLog.{Appended, SameFacts, Unchanged}
 use Rattle.daemon_core.specs.Goes.{TurnedOrOff}
 use Rattle.daemon_core.specs.Housed.{HouseLogView, Housed, past, past_in}
 use Rattle.daemon_core.specs.Keeping.{keeper_faults}
-use Rattle.daemon_core.specs.Turns.{KeeperFared, Signs, Turned, WentOff}
+use Rattle.daemon_core.specs.Turns.{KeeperFared, Turned, WentOff}
 use Rattle.daemon_core.proofs.HouseLogKept.{appended-past, boots-same}
 use Rattle.daemon_core.proofs.Fared.{fared-same}
 use Rattle.daemon_core.specs.Planned.{HavePlans}
@@ -51,7 +52,7 @@ counted-still end was now counted told first h c more =
     (λ (w : was + first ≤ counted). ⊎_elim (λ (m : now + counted ≤ was + told). inl (omega arith)) (λ (m : end ≤ told). inr m) c)
     (λ (w : end ≤ counted). inr (omega arith)) h
 
-module _ {K : Type 0} (signs : Signs K) (name : Name) (client : ℕ) (old new : Housed K) where
+module _ {K : Type 0} (signs : KeeperSigns K) (name : Name) (client : ℕ) (old new : Housed K) where
   pub keeps-counted : KeepsName signs name old → Grew client old.house_log new.house_log → KeeperFared signs old new → signs.faults old.keeper ≤ signs.faults new.keeper → HavePlans name.plans new.places → KeepsName signs name new
   keeps-counted n g f c p =
       let s = grew-facts client old.house_log new.house_log g in

@@ -11,7 +11,7 @@ use Rattle.update_log.proofs.Lists.{by_test, eqb-other}
 use Rattle.update_log.proofs.RowsKept.{GoesOn, fixed, map-fixed, with_state-fixed}
 use Rattle.update_log.proofs.WaitsOnce.{state_of}
 use Rattle.update_log.specs.Holding.{live}
-use Rattle.update_log.specs.Known.{Fate, Known, Target, known, resumption, fate, asked, row_of, rows, rows_by, target, views_in}
+use Rattle.update_log.specs.Known.{Basis, Fate, Known, Target, known, resumption, fate, asked, row_of, rows, rows_by, target, views_in}
 use Rattle.update_log.specs.Legal.{Allowed, IsLegal, may_judge}
 use Rattle.update_log.specs.Pasts.{is_boot, is_of, is_keeper_fault, time_of}
 use Rattle.update_log.specs.Shows.{Campaign}
@@ -65,17 +65,17 @@ asked-spares facts time entries k (Event.Finish client e state stored) entry n =
 asked-spares facts time entries k (Event.Judge client e version state stored) entry n = n
 asked-spares facts time entries k _ entry n = tt
 
-rows-by-fate : (facts : Facts) (opening : List Row) (past : List Event) (event : Event) → is_boot event ≡ false
-    → rows facts opening (event ∷ past) ≡ rows_by (fate event) (asked facts (time_of past) (live past) (known facts opening past) event) (rows facts opening past)
-rows-by-fate facts opening past (Event.Boot number t limit found boards) b = cc
-rows-by-fate facts opening past _ b = refl
+rows-by-fate : (basis : Basis) (past : List Event) (event : Event) → is_boot event ≡ false
+    → rows basis (event ∷ past) ≡ rows_by (fate event) (asked basis.facts (time_of past) (live past) (known basis past) event) (rows basis past)
+rows-by-fate basis past (Event.Boot number t limit found boards) b = cc
+rows-by-fate basis past _ b = refl
 
 -- Then the row stays.
-pub row-same : (facts : Facts) (opening : List Row) (past : List Event) (event : Event) (entry : ℕ) (row : Row) → is_boot event ≡ false → advances entry event ≡ false → row_of (rows facts opening past) entry ≡ Some row → row_of (rows facts opening (event ∷ past)) entry ≡ Some row
-row-same facts opening past event entry row b n h =
-    ap (λ (all : List Row). row_of all entry) (rows-by-fate facts opening past event b)
-    ∙ row-by (fate event) (asked facts (time_of past) (live past) (known facts opening past) event) (rows facts opening past) entry row
-    (asked-spares facts (time_of past) (live past) (known facts opening past) event entry n) h
+pub row-same : (basis : Basis) (past : List Event) (event : Event) (entry : ℕ) (row : Row) → is_boot event ≡ false → advances entry event ≡ false → row_of (rows basis past) entry ≡ Some row → row_of (rows basis (event ∷ past)) entry ≡ Some row
+row-same basis past event entry row b n h =
+    ap (λ (all : List Row). row_of all entry) (rows-by-fate basis past event b)
+    ∙ row-by (fate event) (asked basis.facts (time_of past) (live past) (known basis past) event) (rows basis past) entry row
+    (asked-spares basis.facts (time_of past) (live past) (known basis past) event entry n) h
 
 pub concerns-none : (event : Event) (entry : ℕ) → concerns entry event ≡ false → advances entry event ≡ false
 concerns-none (Event.Resume client e fetched answer stored) entry n = n
@@ -84,11 +84,11 @@ concerns-none (Event.Judge client e version state stored) entry n = n
 concerns-none _ entry n = refl
 
 -- A row that was put off: only the daemon itself, client 0, resumes it.
-pub unadvanced : (c : Campaign) (opening : List Row) (past : List Event) (event : Event) (entry : ℕ) (row : Row) → IsHistory opening → IsLegal c opening past → Allowed c opening past event → IsOther 0 event
-    → row_of (rows c.facts opening past) entry ≡ Some row → row.state ≡ RowState.Pending → advances entry event ≡ false
-unadvanced c opening past event entry row v legal a o f p = at event a o.not_of
+pub unadvanced : (c : Campaign) (past : List Event) (event : Event) (entry : ℕ) (row : Row) → IsHistory c.basis.opening → IsLegal c past → Allowed c past event → IsOther 0 event
+    → row_of (rows c.basis past) entry ≡ Some row → row.state ≡ RowState.Pending → advances entry event ≡ false
+unadvanced c past event entry row v legal a o f p = at event a o.not_of
   where
-    at : (x : Event) → Allowed c opening past x → is_of 0 x ≡ false → advances entry x ≡ false
+    at : (x : Event) → Allowed c past x → is_of 0 x ≡ false → advances entry x ≡ false
     at (Event.Boot number t limit found boards) b n = refl
     at (Event.Query client query) b n = refl
     at (Event.Ask client request pending answer) b n = refl
@@ -102,12 +102,12 @@ unadvanced c opening past event entry row v legal a o f p = at event a o.not_of
     at (Event.End client e op outcome told seen) b n = refl
     at (Event.Finish client e state stored) b n =
         let s = b.2 in
-        eqb-other e entry (λ q. let g : state_of (rows c.facts opening past) e ≡ Some RowState.Begun = live-begun c opening past e b.0 v legal s.live in
-        let h : state_of (rows c.facts opening past) entry ≡ Some row.state = ap (option_map (λ (r : Row). r.state)) f in
-        let bad : Some RowState.Pending ≡ Some RowState.Begun = ap Some (sym p) ∙ sym h ∙ ap (state_of (rows c.facts opening past)) (sym q) ∙ g in cc)
+        eqb-other e entry (λ q. let g : state_of (rows c.basis past) e ≡ Some RowState.Begun = live-begun c past e b.0 v legal s.live in
+        let h : state_of (rows c.basis past) entry ≡ Some row.state = ap (option_map (λ (r : Row). r.state)) f in
+        let bad : Some RowState.Pending ≡ Some RowState.Begun = ap Some (sym p) ∙ sym h ∙ ap (state_of (rows c.basis past)) (sym q) ∙ g in cc)
     at (Event.Judge client e version state stored) b n =
         let j = b.2 in
-        eqb-other e entry (λ q. let g : Some b.0 ≡ Some row = sym j.row_is ∙ ap (row_of (rows c.facts opening past)) q ∙ f in
+        eqb-other e entry (λ q. let g : Some b.0 ≡ Some row = sym j.row_is ∙ ap (row_of (rows c.basis past)) q ∙ f in
         let same : b.0 ≡ row = cc in
         let s : b.0.state ≡ RowState.Pending = ap (λ (r : Row). r.state) same ∙ p in
         let bad : may_judge past RowState.Pending e ≡ true = subst (λ (x : RowState). may_judge past x e ≡ true) s j.waits in cc)

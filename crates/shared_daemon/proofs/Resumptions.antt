@@ -2,6 +2,7 @@
 use Rattle.std.proofs.Common.{◌≡◌, ℕ, false, List, refl, sym, ◌∙◌, subst, inl, inr}
 use Rattle.std.specs.Prelude.{Option, Some, None, Result, Ok, Err}
 use Rattle.history_keeper.specs.declared.row.Row.{Row}
+use Rattle.history_keeper.specs.Signs.{KeeperSigns}
 use Rattle.update_log.specs.declared.answer.ResumeAnswer.{ResumeAnswer}
 use Rattle.update_log.specs.declared.event.Event.{Event}
 use Rattle.update_log.specs.declared.event.Stored.{Stored}
@@ -27,7 +28,6 @@ use Rattle.shared_daemon.specs.declared.entry.Entry.{Entry}
 use Rattle.shared_daemon.specs.Calls.{WasSeen}
 use Rattle.shared_daemon.specs.Entries.{chronicle, entries_in, maker_of, past_seen}
 use Rattle.daemon_core.specs.Planned.{HavePlans}
-use Rattle.daemon_core.specs.Turns.{Signs}
 use Rattle.shared_daemon.specs.Names.{KeepsName, Name}
 use Rattle.shared_daemon.specs.Resumed.{MayResumeRow, ResumeGaveIn, ResumedIn, StoppedIn}
 use Rattle.shared_daemon.proofs.Keeping.{Grew, calm-grew, off-calm}
@@ -72,14 +72,14 @@ resumed-adds entry fetched (Ok (Claimed.Kept kept state)) met log t = absurd t
 resumed-adds entry fetched (Ok (Claimed.Refused refusal)) met log t = adds-on 0 (Event.Resume 0 entry fetched (ResumeAnswer.Refused refusal) t.0) met log t.2
 resumed-adds entry fetched (Err stopped) met log t = stopped-adds stopped.stop met log t
 
-pub resumed-gave : {K : Type 0} (signs : Signs K) (name : Name) (entry : ℕ) (held : Option (Ticket × Fetched)) (result : Result Claimed ResumeStop) (old new : Housed K) → KeepsName signs name new → IsHouseLog new.house_log → HavePlans name.plans old.places → ResumeGave entry held result old new
+pub resumed-gave : {K : Type 0} (signs : KeeperSigns K) (name : Name) (entry : ℕ) (held : Option (Ticket × Fetched)) (result : Result Claimed ResumeStop) (old new : Housed K) → KeepsName signs name new → IsHouseLog new.house_log → HavePlans name.plans old.places → ResumeGave entry held result old new
     → ResumeGaveIn name entry held result (chronicle new)
 resumed-gave signs name entry held (Ok (Claimed.Taken taken)) old new n k p g = (
   g.0,
   g.1,
   record {
     number = g.3.0;
-    is = to-name signs name new n k (λ f s o es. IsTaken f s o es 0 taken g.3.0) g.3.1;
+    is = to-name signs name new n k (λ base s es. IsTaken base s es 0 taken g.3.0) g.3.1;
     planned = taken-planned name.plans old.places g.3.0 taken p g.3.3;
   },
 )
@@ -87,7 +87,7 @@ resumed-gave signs name entry held (Ok (Claimed.Kept kept state)) old new n k p 
 resumed-gave signs name entry held (Ok (Claimed.Refused refusal)) old new n k p g = tt
 resumed-gave signs name entry held (Err stopped) old new n k p g = g.2
 
-module _ {K : Type 0} (signs : Signs K) (name : Name) (h : Housed K) (entry : ℕ) where
+module _ {K : Type 0} (signs : KeeperSigns K) (name : Name) (h : Housed K) (entry : ℕ) where
   pub put_off-met : (held : Option (Ticket × Fetched)) → KeepsName signs name h → IsHouseLog h.house_log → WasSeen name 0 (MayResumeRow name entry held) (chronicle h) → IsPutOff h.house_log entry
   put_off-met held n k w =
       let m = w.holds in
@@ -102,8 +102,8 @@ module _ {K : Type 0} (signs : Signs K) (name : Name) (h : Housed K) (entry : �
       let m = w.holds.has in
       record {
         held_is =
-            from-name signs name h n k (λ f s o p. hold p 0 ≡ Some (held_by held.0 (block_count held.1)))
-            (others.hold-stays name.facts name.first name.opening 0 (past_seen w.seen) (past_seen (chronicle h)) (stays name 0 w.seen (chronicle h) w.log w.meets) ∙ m.held_is);
+            from-name signs name h n k (λ base s p. hold p 0 ≡ Some (held_by held.0 (block_count held.1)))
+            (others.hold-stays name.basis name.first 0 (past_seen w.seen) (past_seen (chronicle h)) (stays name 0 w.seen (chronicle h) w.log w.meets) ∙ m.held_is);
         pending_is = m.pending_is;
         whole = subst (λ (f : Facts). IsFetchOf f held.0.release held.1) (sym n.facts_are) m.whole;
       }
@@ -112,12 +112,12 @@ module _ {K : Type 0} (signs : Signs K) (name : Name) (h : Housed K) (entry : �
         m.refusal,
         record {
           free =
-              from-name signs name h n k (λ f s o p. IsFree p 0)
-              (others.free-stays name.facts name.first name.opening 0 (past_seen w.seen) (past_seen (chronicle h)) (stays name 0 w.seen (chronicle h) w.log w.meets) m.free);
+              from-name signs name h n k (λ base s p. IsFree p 0)
+              (others.free-stays name.basis name.first 0 (past_seen w.seen) (past_seen (chronicle h)) (stays name 0 w.seen (chronicle h) w.log w.meets) m.free);
           event = m.event;
           last =
-              from-name signs name h n k (λ f s o p. last_of 0 p ≡ Some m.event)
-              (others.last-stays name.facts name.first name.opening 0 (past_seen w.seen) (past_seen (chronicle h)) (stays name 0 w.seen (chronicle h) w.log w.meets) ∙ m.last);
+              from-name signs name h n k (λ base s p. last_of 0 p ≡ Some m.event)
+              (others.last-stays name.basis name.first 0 (past_seen w.seen) (past_seen (chronicle h)) (stays name 0 w.seen (chronicle h) w.log w.meets) ∙ m.last);
           refused = m.refused;
         },
       )

@@ -1,6 +1,7 @@
 -- What a turn of the lock makes of what a pass saw.
 use Rattle.std.proofs.Common.{◌≡◌, ℕ, Bool, true, false, List, [], ◌∷◌, ◌++◌, length, drop, refl, ap, sym, ◌∙◌, subst, inl, inr, ⊎_elim, append-nil}
 use Rattle.std.specs.Prelude.{Result, Ok, Err}
+use Rattle.history_keeper.specs.Signs.{KeeperSigns}
 use Rattle.update_log.specs.declared.event.Event.{Event}
 use Rattle.update_log.specs.Pasts.{off}
 use Rattle.daemon_core.specs.declared.off.Off.{Off}
@@ -8,7 +9,7 @@ use Rattle.daemon_core.specs.declared.stop.Stop.{Stop}
 use Rattle.daemon_core.specs.HouseLog.{Appended, IsHouseLog, Unchanged}
 use Rattle.daemon_core.specs.Goes.{TurnedOrOff}
 use Rattle.daemon_core.specs.Housed.{HouseLogView, Housed, past_in}
-use Rattle.daemon_core.specs.Turns.{Signs, Turned, WentOff}
+use Rattle.daemon_core.specs.Turns.{Turned, WentOff}
 use Rattle.turn_lock.specs.Lists.{AddsAtMostOne, BeginsWith, beyond, made_by}
 use Rattle.turn_lock.specs.Shown.{LockId, PassView, TurnView, IsReady}
 use Rattle.turn_lock.proofs.Counting.{beyond_append, made_by-own}
@@ -85,7 +86,7 @@ added-own n met log a =
 
 module _ {X : Type 0} (name : Name) (old : PassView Entry) (turn : TurnView X Entry) where
   -- As a turn begins.
-  pub begun : {K : Type 0} (signs : Signs K) (h : Housed K) (lock : LockId) → IsPass lock name old → KeepsName signs name h → IsHouseLog h.house_log → turn.number ≡ old.number → turn.base ≡ old.base → turn.mine ≡ old.mine → turn.seen ≡ chronicle h
+  pub begun : {K : Type 0} (signs : KeeperSigns K) (h : Housed K) (lock : LockId) → IsPass lock name old → KeepsName signs name h → IsHouseLog h.house_log → turn.number ≡ old.number → turn.base ≡ old.base → turn.mine ≡ old.mine → turn.seen ≡ chronicle h
       → BeginsWith turn.seen old.seen → turn.mine ≡ made_by maker_of turn.number (drop turn.base turn.seen) → Begins name old turn
   begun signs h lock p n k number base mine list begins own =
       let at : turn.base ≡ length name.start = base ∙ p.base in

@@ -68,8 +68,8 @@ FinishedIn client entry board payload (Err stop) met log = FoundOff client met l
 abbrev pub standing_in : Name → List Entry → ℕ → Option Standing
 standing_in name log entry =
     option_map
-    (standing (past_seen log) (views name.facts name.opening (past_seen log)) entry)
-    (row_of (rows name.facts name.opening (past_seen log)) entry)
+    (standing (past_seen log) (views name.basis (past_seen log)) entry)
+    (row_of (rows name.basis (past_seen log)) entry)
 
 -- A judgement is answered how the row stood. Only one that was done is put behind the log.
 abbrev pub JudgedIn : Name → ℕ → ℕ → Result Judged Stop → List Entry → List Entry → Type 0
@@ -84,7 +84,7 @@ JudgedIn name client entry (Err Stop.NoMemory) met log = AddsNone met log
 -- What is found of the device of a selector in a log.
 abbrev pub device_in : Name → List Entry → Selector → DeviceRow
 device_in name log device =
-    device_row (views name.facts name.opening (past_seen log)) (rows name.facts name.opening (past_seen log)) device
+    device_row (views name.basis (past_seen log)) (rows name.basis (past_seen log)) device
 
 -- A client that settles a device is answered what was found of it. Where its row was judged, that is put
 -- behind the log, and else the question.

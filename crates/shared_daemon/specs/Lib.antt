@@ -13,6 +13,7 @@ pub use Rattle.turn_lock.specs.Shown
 pub use Rattle.emulated_boards.specs.Boards
 pub use Rattle.emulated_boards.specs.Conditions
 pub use Rattle.history_keeper.specs.Histories
+pub use Rattle.history_keeper.specs.Signs
 pub use Rattle.update_log.specs.Holding
 pub use Rattle.update_log.specs.Known
 pub use Rattle.update_log.specs.Legal

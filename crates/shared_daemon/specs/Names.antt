@@ -3,29 +3,29 @@ use Rattle.std.specs.Prelude.{◌≡◌, ◌⊎◌, ◌<◌, ◌≤◌, ◌+◌,
 use Rattle.emulated_boards.specs.declared.fault.PlannedFault.{PlannedFault}
 use Rattle.fw_facts.specs.declared.seen.Seen.{Seen}
 use Rattle.history_keeper.specs.Histories.{IsHistory}
+use Rattle.history_keeper.specs.Signs.{KeeperSigns}
 use Rattle.history_keeper.specs.declared.row.Row.{Row}
 use Rattle.update_log.specs.declared.facts.Facts.{Facts}
 use Rattle.update_log.specs.Holding.{holds, live}
 use Rattle.update_log.specs.Pasts.{boots}
+use Rattle.update_log.specs.Known.{Basis, basis_of}
 use Rattle.daemon_core.specs.HouseLog.{IsLegalSo}
 use Rattle.daemon_core.specs.Housed.{Housed, past}
 use Rattle.daemon_core.specs.Keeping.{keeper_faults}
 use Rattle.daemon_core.specs.Planned.{HavePlans}
-use Rattle.daemon_core.specs.Turns.{Signs}
 use Rattle.turn_lock.specs.Lists.{BeginsWith, beyond, made_by}
 use Rattle.turn_lock.specs.Shown.{LockId, LockView, PassView, IsReady}
 use Rattle.shared_daemon.specs.declared.entry.Entry.{Entry}
 use Rattle.shared_daemon.specs.Entries.{AllMade, maker_of, past_seen}
 
--- What no turn changes: the facts, what each first image shows, the faults that are planned for each board,
--- by its number, the rows before the log, how many boots there were, and the log as the daemon began; of the
+-- What no turn changes: what the log stands on, what each first image shows, the faults that are planned for each
+-- board, by its number, how many boots there were, and the log as the daemon began; of the
 -- keeper, how many faults it had counted then, and how many the log told; how many it had counted as the first
 -- house met it; and what was so of it as the daemon began, if it still tells rows.
 pub record Name : Type 1 where
-  pub facts : Facts
+  pub basis : Basis
   pub first : List Seen
   pub plans : List (List PlannedFault)
-  pub opening : List Row
   pub boots : ℕ
   pub start : List Entry
   pub start_faults : ℕ
@@ -48,10 +48,9 @@ no_facts =
 abbrev pub no_name : Name
 no_name =
     record {
-      facts = no_facts;
+      basis = basis_of no_facts [];
       first = [];
       plans = [];
-      opening = [];
       boots = 0;
       start = [];
       start_faults = 0;
@@ -63,9 +62,9 @@ no_name =
 -- A log of this name: it begins with the log as the daemon began, and had no boot since; it is legal, over
 -- rows that are a valid history; and each event was made by its client.
 pub record IsLogOf (name : Name) (log : List Entry) : Type 0 where
-  pub history : IsHistory name.opening
+  pub history : IsHistory name.basis.opening
   pub begins : BeginsWith log name.start
-  pub legal : IsLegalSo name.facts name.first name.opening (past_seen log)
+  pub legal : IsLegalSo name.basis name.first (past_seen log)
   pub made : AllMade log
   pub boots_are : boots (past_seen log) ≡ name.boots
 
@@ -73,10 +72,10 @@ pub record IsLogOf (name : Name) (log : List Entry) : Type 0 where
 -- since. Each board at home has the faults planned that its number has. Each fault of the keeper that the log
 -- tells was counted by the keeper, or its count stands at its end; that count has not fallen since the daemon
 -- began, and is as it was then while the log tells no more faults; and if the keeper tells rows, it came so.
-pub record KeepsName {K : Type 0} (signs : Signs K) (name : Name) (h : Housed K) : Type 0 where
-  pub facts_are : h.house_log.facts ≡ name.facts
+pub record KeepsName {K : Type 0} (signs : KeeperSigns K) (name : Name) (h : Housed K) : Type 0 where
+  pub facts_are : h.house_log.facts ≡ name.basis.facts
   pub first_are : h.house_log.first ≡ name.first
-  pub opening_is : h.house_log.opening ≡ name.opening
+  pub opening_is : h.house_log.opening ≡ name.basis.opening
   pub loaded : h.house_log.loaded ≡ true
   pub reopened : h.house_log.reopened ≡ false
   pub booted : 0 < name.boots

@@ -29,7 +29,7 @@ use Rattle.shared_daemon.specs.Taking.{TookEntry}
 pub record HasHold (name : Name) (entry : ℕ) (ticket : Ticket) (fetched : Fetched) (seen : List Entry) : Type 0 where
   pub held_is : hold (past_seen seen) 0 ≡ Some (held_by ticket (block_count fetched))
   pub pending_is : ticket.pending ≡ Some entry
-  pub whole : IsFetchOf name.facts ticket.release fetched
+  pub whole : IsFetchOf name.basis.facts ticket.release fetched
 
 -- The daemon has nothing out, and its last event in this boot is the ask for this row, which was refused.
 pub record HasRefusal (entry : ℕ) (seen : List Entry) : Type 0 where
@@ -46,7 +46,7 @@ HasEither name entry None seen = HasRefusal entry seen
 -- The row is put off, and its hold comes in, or its ask was refused.
 pub record MayResumeRow (name : Name) (entry : ℕ) (held : Option (Ticket × Fetched)) (seen : List Entry) : Type 0 where
   pub row : Row
-  pub row_is : row_of (rows name.facts name.opening (past_seen seen)) entry ≡ Some row
+  pub row_is : row_of (rows name.basis (past_seen seen)) entry ≡ Some row
   pub pending : row.state ≡ RowState.Pending
   pub has : HasEither name entry held seen
 

@@ -18,14 +18,14 @@ use Rattle.shared_daemon.specs.Others.{IsOwn}
 
 -- It starts the next step, of which none is open.
 abbrev pub MayStart : Name → ℕ → ℕ → Op → List Entry → Type 0
-MayStart name client entry op seen = (l : LiveEntry) × StartAllowed name.facts name.opening (past_seen seen) client entry op l
+MayStart name client entry op seen = (l : LiveEntry) × StartAllowed name.basis (past_seen seen) client entry op l
 
 -- It ends the open step, with the entry's board.
 pub record EndsOwn (name : Name) (client entry : ℕ) (op : Op) (outcome : Result (Unit {0}) BoardFault) (board : BoardState) (seen : List Entry) : Type 0 where
   pub l : LiveEntry
   pub number : ℕ
   pub own : IsOwn (past_seen seen) client entry l
-  pub ends : StepEnds name.facts name.first name.opening (past_seen seen) client entry op outcome number board
+  pub ends : StepEnds name.basis name.first (past_seen seen) client entry op outcome number board
 
 -- It finishes the entry, which has no next step: all marks of its board were told, its planned faults are
 -- those of its number, and as many blocks come back as it holds.
@@ -33,15 +33,15 @@ pub record MayFinish (name : Name) (client entry : ℕ) (board : BoardState) (bl
   pub l : LiveEntry
   pub number : ℕ
   pub closed : RowState
-  pub comes : ComesHome name.facts name.first name.opening (past_seen seen) client entry number l [] board blocks
+  pub comes : ComesHome name.basis name.first (past_seen seen) client entry number l [] board blocks
   pub planned : HasPlan name.plans number board
-  pub done : IsDone name.facts name.opening (past_seen seen) entry closed
+  pub done : IsDone name.basis (past_seen seen) entry closed
 
 -- It gives the entry back, where the boot is off: marks of its board may be left untold.
 pub record GoesHome (name : Name) (client entry : ℕ) (board : BoardState) (blocks : ℕ) (seen : List Entry) : Type 0 where
   pub l : LiveEntry
   pub number : ℕ
   pub tail : List Mark
-  pub comes : ComesHome name.facts name.first name.opening (past_seen seen) client entry number l tail board blocks
+  pub comes : ComesHome name.basis name.first (past_seen seen) client entry number l tail board blocks
   pub planned : HasPlan name.plans number board
   pub off_is : off (past_seen seen) ≡ true

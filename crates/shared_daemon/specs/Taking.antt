@@ -14,7 +14,7 @@ use Rattle.shared_daemon.specs.Names.{Name}
 -- An entry that was taken is the client's live one, and its board has the faults planned that its number has.
 pub record TookEntry (name : Name) (client : ℕ) (taken : Taken) (log : List Entry) : Type 0 where
   pub number : ℕ
-  pub is : IsTaken name.facts name.first name.opening (past_seen log) client taken number
+  pub is : IsTaken name.basis name.first (past_seen log) client taken number
   pub planned : HasPlan name.plans number taken.board
 
 -- A claim that took an entry has the payload that was fetched. One that was stopped hands the ticket and what

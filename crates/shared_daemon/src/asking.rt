@@ -34,7 +34,7 @@ impl<K: Keeper, N: Naming> Named<K, N> {
     pub(crate) fn ask(&mut self, client: u32, request: &Request) -> Result<Asked, Stop>
         requires { WasSeen N.name client (λ seen. IsFree (past_seen seen) client) (chronicle self.old) }
         ensures turn { TurnedIn client (λ asked. Event.Ask client request.now None (answer_of asked)) result (chronicle self.old) (chronicle self.new) }
-        ensures holds { IfOk result (HoldsFor N.name.facts client request.now None) }
+        ensures holds { IfOk result (HoldsFor N.name.basis.facts client request.now None) }
     {
         self.house.known();
         self.house.ask(client, request)
@@ -42,9 +42,9 @@ impl<K: Keeper, N: Naming> Named<K, N> {
 
     pub(crate) fn ask_pending(&mut self, entry: u32) -> Result<Asked, Stop>
         requires free { WasSeen N.name 0 (λ seen. IsFree (past_seen seen) 0) (chronicle self.old) }
-        requires pending { (row : Row) × (row_of (rows N.name.facts N.name.opening (past_seen (chronicle self.old))) entry ≡ Some row) × (row.state ≡ RowState.Pending) }
-        ensures turn { (row : Row) → row_of (rows N.name.facts N.name.opening (past_seen (chronicle self.old))) entry ≡ Some row → TurnedIn 0 (λ asked. Event.Ask 0 (request_of_row row) (Some entry) (answer_of asked)) result (chronicle self.old) (chronicle self.new) }
-        ensures holds { (row : Row) → row_of (rows N.name.facts N.name.opening (past_seen (chronicle self.old))) entry ≡ Some row → IfOk result (HoldsFor N.name.facts 0 (request_of_row row) (Some entry)) }
+        requires pending { (row : Row) × (row_of (rows N.name.basis (past_seen (chronicle self.old))) entry ≡ Some row) × (row.state ≡ RowState.Pending) }
+        ensures turn { (row : Row) → row_of (rows N.name.basis (past_seen (chronicle self.old))) entry ≡ Some row → TurnedIn 0 (λ asked. Event.Ask 0 (request_of_row row) (Some entry) (answer_of asked)) result (chronicle self.old) (chronicle self.new) }
+        ensures holds { (row : Row) → row_of (rows N.name.basis (past_seen (chronicle self.old))) entry ≡ Some row → IfOk result (HoldsFor N.name.basis.facts 0 (request_of_row row) (Some entry)) }
     {
         self.house.known();
         self.house.ask_pending(entry)
@@ -90,7 +90,7 @@ impl<K: Keeper, N: Naming> Daemon<K, N> {
         ensures pass { IsPass self.now.id N.name pass.new }
         ensures same { pass.new.number ≡ pass.old.number }
         ensures turn { Took N.name (TurnedIn pass.old.number (λ asked. Event.Ask pass.old.number request.now None (answer_of asked)) result) pass.old pass.new }
-        ensures holds { IfOk result (HoldsFor N.name.facts pass.old.number request.now None) }
+        ensures holds { IfOk result (HoldsFor N.name.basis.facts pass.old.number request.now None) }
     {
         let mut turn = self.enter(rt, pass);
         let answer = turn.state().ask(pass.number(), request);
@@ -104,11 +104,11 @@ impl<K: Keeper, N: Naming> Daemon<K, N> {
         requires pass { IsPass self.now.id N.name pass.old }
         requires own { pass.old.number ≡ 0 }
         requires free { IsFree (past_seen pass.old.seen) 0 }
-        requires pending { (row : Row) × (row_of (rows N.name.facts N.name.opening (past_seen pass.old.seen)) entry ≡ Some row) × (row.state ≡ RowState.Pending) }
+        requires pending { (row : Row) × (row_of (rows N.name.basis (past_seen pass.old.seen)) entry ≡ Some row) × (row.state ≡ RowState.Pending) }
         ensures pass { IsPass self.now.id N.name pass.new }
         ensures same { pass.new.number ≡ pass.old.number }
-        ensures turn { (row : Row) → row_of (rows N.name.facts N.name.opening (past_seen pass.old.seen)) entry ≡ Some row → Took N.name (TurnedIn 0 (λ asked. Event.Ask 0 (request_of_row row) (Some entry) (answer_of asked)) result) pass.old pass.new }
-        ensures holds { (row : Row) → row_of (rows N.name.facts N.name.opening (past_seen pass.old.seen)) entry ≡ Some row → IfOk result (HoldsFor N.name.facts 0 (request_of_row row) (Some entry)) }
+        ensures turn { (row : Row) → row_of (rows N.name.basis (past_seen pass.old.seen)) entry ≡ Some row → Took N.name (TurnedIn 0 (λ asked. Event.Ask 0 (request_of_row row) (Some entry) (answer_of asked)) result) pass.old pass.new }
+        ensures holds { (row : Row) → row_of (rows N.name.basis (past_seen pass.old.seen)) entry ≡ Some row → IfOk result (HoldsFor N.name.basis.facts 0 (request_of_row row) (Some entry)) }
     {
         let mut turn = self.enter(rt, pass);
         let answer = turn.state().ask_pending(entry);

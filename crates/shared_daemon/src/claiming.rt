@@ -25,7 +25,7 @@ impl<K: Keeper, N: Naming> Named<K, N> {
     ) -> Result<Claimed, ClaimStop>
         requires held { WasSeen N.name client (λ seen. hold (past_seen seen) client ≡ Some (held_by ticket (block_count fetched))) (chronicle self.old) }
         requires asked { ticket.pending ≡ None }
-        requires whole { IsFetchOf N.name.facts ticket.release fetched }
+        requires whole { IsFetchOf N.name.basis.facts ticket.release fetched }
         ensures turn { TurnedIn client (claim_event client ticket.request fetched) (stopped_by result) (chronicle self.old) (chronicle self.new) }
         ensures gave { ClaimGaveIn N.name client ticket fetched result (chronicle self.new) }
     {
@@ -50,7 +50,7 @@ impl<K: Keeper, N: Naming> Daemon<K, N> {
         requires pass { IsPass self.now.id N.name pass.old }
         requires held { hold (past_seen pass.old.seen) pass.old.number ≡ Some (held_by ticket (block_count fetched)) }
         requires asked { ticket.pending ≡ None }
-        requires whole { IsFetchOf N.name.facts ticket.release fetched }
+        requires whole { IsFetchOf N.name.basis.facts ticket.release fetched }
         ensures pass { IsPass self.now.id N.name pass.new }
         ensures same { pass.new.number ≡ pass.old.number }
         ensures turn { Took N.name (TurnedIn pass.old.number (claim_event pass.old.number ticket.request fetched) (stopped_by result)) pass.old pass.new }

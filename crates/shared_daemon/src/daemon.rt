@@ -1,8 +1,8 @@
 //! The daemon: a turn lock round a house that has a name.
 ghost use Rattle.std.specs.Prelude.{◌≡◌, ◌++◌, ◌+◌, ◌<◌, ◌≤◌, [], All, IfErr, IfOk, length, map};
 ghost use Rattle.std.specs.List.{range_with_len};
+ghost use Rattle.history_keeper.specs.Signs.{signs_of};
 ghost use Rattle.daemon_core.specs.Parts.{AllHome};
-ghost use Rattle.daemon_core.specs.Turns.{signs_of};
 ghost use Rattle.turn_lock.specs.Lists.{AddsAtMostOne, BeginsWith, beyond};
 ghost use Rattle.turn_lock.specs.Shown.{HasItsEntries, IsFresh, IsTurnOf, PassView};
 ghost use Rattle.shared_daemon.specs.declared.entry.Entry.{Entry};
@@ -53,7 +53,7 @@ impl<K: Keeper, N: Naming> Daemon<K, N> {
         processors: u32,
     ) -> Result<(Daemon<K, N>, Vec<Pass>), Refused<House<K>>>
         requires few { clients ≤ 16 }
-        requires name { KeepsName (signs_of K.tells K.faults) N.name house }
+        requires name { KeepsName (signs_of K.tells K.doubt K.faults) N.name house }
         requires start { chronicle house ≡ N.name.start }
         requires nothing { HasNothing (chronicle house) }
 
@@ -84,7 +84,7 @@ impl<K: Keeper, N: Naming> Daemon<K, N> {
         requires passes { All (IsPass self.id N.name) passes.items }
         requires free { All IsFreePass passes.items }
 
-        ensures name { KeepsName (signs_of K.tells K.faults) N.name result }
+        ensures name { KeepsName (signs_of K.tells K.doubt K.faults) N.name result }
         ensures log { IsLogOf N.name (chronicle result) }
         ensures seen { All (λ p. BeginsWith (chronicle result) p.seen) passes.items }
         ensures mine { All (HasItsEntries maker_of N.name.start (chronicle result)) passes.items }

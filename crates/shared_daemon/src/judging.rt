@@ -15,7 +15,7 @@ use std::sync::Wait;
 
 impl<K: Keeper, N: Naming> Named<K, N> {
     pub(crate) fn judge(&mut self, client: u32, entry: u32) -> Result<Judged, Stop>
-        requires { WasSeen N.name client (λ seen. IsSome (row_of (rows N.name.facts N.name.opening (past_seen seen)) entry)) (chronicle self.old) }
+        requires { WasSeen N.name client (λ seen. IsSome (row_of (rows N.name.basis (past_seen seen)) entry)) (chronicle self.old) }
         ensures { JudgedIn N.name client entry result (chronicle self.old) (chronicle self.new) }
     {
         self.house.known();
@@ -35,7 +35,7 @@ impl<K: Keeper, N: Naming> Daemon<K, N> {
     /// judgement that is done is put behind the log.
     pub fn judge<R: Wait>(&self, rt: &R, pass: &mut Pass, entry: u32) -> Result<Judged, Stop>
         requires pass { IsPass self.now.id N.name pass.old }
-        requires row { IsSome (row_of (rows N.name.facts N.name.opening (past_seen pass.old.seen)) entry) }
+        requires row { IsSome (row_of (rows N.name.basis (past_seen pass.old.seen)) entry) }
         ensures pass { IsPass self.now.id N.name pass.new }
         ensures same { pass.new.number ≡ pass.old.number }
         ensures turn { Took N.name (JudgedIn N.name pass.old.number entry result) pass.old pass.new }

@@ -1,8 +1,8 @@
 //! A house under a name, which lies behind the lock.
 ghost use Rattle.std.specs.Prelude.{◌≡◌};
+ghost use Rattle.history_keeper.specs.Signs.{signs_of};
 ghost use Rattle.daemon_core.specs.HouseLog.{IsHouseLog};
 ghost use Rattle.daemon_core.specs.House.{IsHouse};
-ghost use Rattle.daemon_core.specs.Turns.{signs_of};
 ghost use Rattle.shared_daemon.specs.Entries.{chronicle, maker_of};
 ghost use Rattle.shared_daemon.specs.Names.{KeepsName};
 
@@ -20,15 +20,15 @@ pub struct Named<K: Keeper, N: Naming> {
 }
 
 impl<K: Keeper, N: Naming> Model for Named<K, N> {
+    ghost use Rattle.history_keeper.specs.Signs.{signs_of};
     ghost use Rattle.daemon_core.specs.Housed.{Housed};
-    ghost use Rattle.daemon_core.specs.Turns.{signs_of};
     ghost use Rattle.shared_daemon.specs.Names.{KeepsName};
 
     ghost Value = { Housed K };
 
     ghost view = { λ n. n.house };
 
-    ghost invariant = { λ n. KeepsName (signs_of K.tells K.faults) N.name n.house };
+    ghost invariant = { λ n. KeepsName (signs_of K.tells K.doubt K.faults) N.name n.house };
 }
 
 impl<K: Keeper, N: Naming> Chronicle for Named<K, N> {
@@ -41,7 +41,7 @@ impl<K: Keeper, N: Naming> Chronicle for Named<K, N> {
 
 impl<K: Keeper, N: Naming> Named<K, N> {
     pub(crate) fn of(house: House<K>) -> Named<K, N>
-        requires { KeepsName (signs_of K.tells K.faults) N.name house }
+        requires { KeepsName (signs_of K.tells K.doubt K.faults) N.name house }
         ensures { result ≡ house }
     {
         Named {
@@ -52,7 +52,7 @@ impl<K: Keeper, N: Naming> Named<K, N> {
 
     pub(crate) fn into_house(self) -> House<K>
         ensures same { result ≡ self }
-        ensures name { KeepsName (signs_of K.tells K.faults) N.name result }
+        ensures name { KeepsName (signs_of K.tells K.doubt K.faults) N.name result }
     {
         let Named { house, of: _ } = self;
         house
@@ -61,8 +61,8 @@ impl<K: Keeper, N: Naming> Named<K, N> {
     // What is always true of it.
     pub(crate) fn known(&self)
         ensures house_log { IsHouseLog self.now.house_log }
-        ensures name { KeepsName (signs_of K.tells K.faults) N.name self.now }
-        ensures house { IsHouse K.tells K.doubt self.now }
+        ensures name { KeepsName (signs_of K.tells K.doubt K.faults) N.name self.now }
+        ensures house { IsHouse (signs_of K.tells K.doubt K.faults) self.now }
     {
         self.house.known();
     }

@@ -44,7 +44,7 @@ impl<K: Keeper, N: Naming> Named<K, N> {
         board: &Board,
     ) -> Result<(), Off>
         requires { WasSeen N.name client (EndsOwn N.name client entry op outcome board.now) (chronicle self.old) }
-        ensures { TurnedOrOffIn client (λ _. Event.End client entry op outcome (new_marks N.name.facts N.name.opening (past_seen (chronicle self.old)) entry board.now.journal) (view_of board.now.condition)) result (chronicle self.old) (chronicle self.new) }
+        ensures { TurnedOrOffIn client (λ _. Event.End client entry op outcome (new_marks N.name.basis (past_seen (chronicle self.old)) entry board.now.journal) (view_of board.now.condition)) result (chronicle self.old) (chronicle self.new) }
     {
         self.house.known();
         self.house.end(client, entry, op, outcome, board)
@@ -104,7 +104,7 @@ impl<K: Keeper, N: Naming> Daemon<K, N> {
         requires ends { EndsOwn N.name pass.old.number entry op outcome board.now pass.old.seen }
         ensures pass { IsPass self.now.id N.name pass.new }
         ensures same { pass.new.number ≡ pass.old.number }
-        ensures turn { Took N.name (TurnedOrOffIn pass.old.number (λ _. Event.End pass.old.number entry op outcome (new_marks N.name.facts N.name.opening (past_seen pass.old.seen) entry board.now.journal) (view_of board.now.condition)) result) pass.old pass.new }
+        ensures turn { Took N.name (TurnedOrOffIn pass.old.number (λ _. Event.End pass.old.number entry op outcome (new_marks N.name.basis (past_seen pass.old.seen) entry board.now.journal) (view_of board.now.condition)) result) pass.old pass.new }
     {
         let mut turn = self.enter(rt, pass);
         let answer = turn.state().end(pass.number(), entry, op, outcome, board);

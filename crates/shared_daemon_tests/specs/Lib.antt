@@ -1,1 +1,2 @@
 pub mod Waits
+pub use Rattle.history_keeper.specs.Signs

@@ -8,7 +8,7 @@ ghost use Rattle.shared_daemon.specs.Entries.{past_seen};
 ghost use Rattle.shared_daemon.specs.Names.{IsPass};
 ghost use Rattle.claim_runs.specs.Known.{RunsSeen};
 
-use claim_runs::{Outcome, run_claim};
+use claim_runs::{Outcome, Runner};
 use daemon_core::{Asked, Claimed, Fetched, Finished, Hold, Taken};
 use history_keeper::Keeper;
 use install_engine::fetch;
@@ -52,7 +52,7 @@ pub fn ask_held<R: Abort + Wait, K: Keeper, N: Naming>(
     ensures pass { IsPass daemon.now.id N.name pass.new }
     ensures same { pass.new.number ≡ pass.old.number }
     ensures held { hold (past_seen pass.new.seen) pass.new.number ≡ Some (held_by result.ticket result.blocks.count) }
-    ensures hold { IsHoldFor N.name.facts pass.old.number request.now None result }
+    ensures hold { IsHoldFor N.name.basis.facts pass.old.number request.now None result }
 {
     match daemon.ask(rt, pass, request) {
         Ok(Asked::Held(hold)) => hold,
@@ -95,7 +95,7 @@ pub fn claim_taken<R: Abort + Wait, K: Keeper, N: Naming, P: Shelf>(
 ) -> Taken
     requires pass { IsPass daemon.now.id N.name pass.old }
     requires held { hold (past_seen pass.old.seen) pass.old.number ≡ Some (held_by given.ticket given.blocks.count) }
-    requires hold { IsHoldFor N.name.facts pass.old.number request.now None given }
+    requires hold { IsHoldFor N.name.basis.facts pass.old.number request.now None given }
     ensures pass { IsPass daemon.now.id N.name pass.new }
     ensures same { pass.new.number ≡ pass.old.number }
     ensures runs { RunsSeen N.name pass.new.number (parts_taken result) None pass.new.seen }
@@ -129,7 +129,8 @@ pub fn run<R: Abort + Wait, K: Keeper, N: Naming, G: Gate>(
     ensures free { IsFreePass pass.new }
 {
     assert!(rt; (taken.plugin as usize) < plugins.len());
-    match run_claim(rt, daemon, pass, taken, plugins, gate) {
+    let runner = Runner { rt, daemon, gate };
+    match runner.run_claim(pass, taken, plugins) {
         Outcome::Finished(finished) => finished,
         Outcome::Off => panic!(rt; "off"),
     }

@@ -1,8 +1,8 @@
 //! Days of a daemon with two clients, from its beginning to its close.
 ghost use Rattle.std.specs.Prelude.{◌≡◌, ◌<◌, All, length, map};
 ghost use Rattle.std.specs.List.{range_with_len};
+ghost use Rattle.history_keeper.specs.Signs.{signs_of};
 ghost use Rattle.daemon_core.specs.Housed.{past};
-ghost use Rattle.daemon_core.specs.Turns.{signs_of};
 ghost use Rattle.update_log.specs.Pasts.{boots};
 ghost use Rattle.shared_daemon.specs.Closings.{IsFreePass};
 ghost use Rattle.shared_daemon.specs.Entries.{chronicle};
@@ -156,7 +156,7 @@ pub fn day<R: Abort + Wait, K: Keeper + Drop, N: Naming, G: Gate>(
     shelf: &mut MemoryShelf,
     asks: &Asks<G>,
 ) -> Refusal
-    requires name { KeepsName (signs_of K.tells K.faults) N.name house }
+    requires name { KeepsName (signs_of K.tells K.doubt K.faults) N.name house }
     requires start { chronicle house ≡ N.name.start }
     requires nothing { HasNothing (chronicle house) }
 {

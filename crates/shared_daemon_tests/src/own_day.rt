@@ -2,6 +2,7 @@
 ghost use Rattle.std.specs.Prelude.{◌≡◌, All, length, map, option_map, Some, IsSome};
 ghost use Rattle.std.specs.List.{range_with_len};
 ghost use Rattle.history_keeper.specs.declared.row.RowState.{RowState};
+ghost use Rattle.history_keeper.specs.Signs.{signs_of};
 ghost use Rattle.update_log.specs.Known.{row_of};
 ghost use Rattle.turn_lock.specs.Shown.{IsFresh};
 ghost use Rattle.shared_daemon.specs.Closings.{IsFreePass};
@@ -9,7 +10,6 @@ ghost use Rattle.shared_daemon.specs.Entries.{chronicle};
 ghost use Rattle.shared_daemon.specs.Names.{HasNothing, IsPass, KeepsName};
 ghost use Rattle.daemon_tasks.specs.Begins.{CanBegin};
 ghost use Rattle.shared_daemon_tests.specs.Waits.{HasRow, IsPutOff};
-ghost use Rattle.daemon_core.specs.Turns.{signs_of};
 
 use crate::clients::run;
 use crate::own_turns::{ask_pending_held, judge, resume_taken};
@@ -118,7 +118,7 @@ fn day<R: Abort + Wait, K: Keeper, N: Naming, G: Gate>(
     shelf: &mut MemoryShelf,
     tasks: &Tasks<G>,
 ) -> Evening<K>
-    requires name { KeepsName (signs_of K.tells K.faults) N.name house }
+    requires name { KeepsName (signs_of K.tells K.doubt K.faults) N.name house }
     requires start { chronicle house ≡ N.name.start }
     requires nothing { HasNothing (chronicle house) }
     requires put_off { IsPutOff N.name tasks.now.put_off N.name.start }
@@ -163,7 +163,7 @@ pub fn own_day<R: Abort + Wait, K: Keeper, G: Gate>(
     shelf: &mut MemoryShelf,
     tasks: &Tasks<G>,
 ) -> Evening<K>
-    requires { CanBegin (signs_of K.tells K.faults) house }
+    requires { CanBegin (signs_of K.tells K.doubt K.faults) house }
 {
     let Some(RowState::Pending) = state_of(house.rows(), tasks.put_off) else {
         panic!(rt; "not put off")

@@ -33,7 +33,7 @@ pub fn ask_pending_held<R: Abort + Wait, K: Keeper, N: Naming>(
     ensures same { pass.new.number ≡ pass.old.number }
     ensures waits { IsPutOff N.name entry pass.new.seen }
     ensures held { hold (past_seen pass.new.seen) 0 ≡ Some (held_by result.ticket result.blocks.count) }
-    ensures hold { (request : Request) × IsHoldFor N.name.facts 0 request (Some entry) result }
+    ensures hold { (request : Request) × IsHoldFor N.name.basis.facts 0 request (Some entry) result }
 {
     match daemon.ask_pending(rt, pass, entry) {
         Ok(Asked::Held(hold)) => hold,
@@ -56,7 +56,7 @@ pub fn resume_taken<R: Abort + Wait, K: Keeper, N: Naming, P: Shelf>(
     requires own { pass.old.number ≡ 0 }
     requires waits { IsPutOff N.name entry pass.old.seen }
     requires held { hold (past_seen pass.old.seen) 0 ≡ Some (held_by given.ticket given.blocks.count) }
-    requires hold { (request : Request) × IsHoldFor N.name.facts 0 request (Some entry) given }
+    requires hold { (request : Request) × IsHoldFor N.name.basis.facts 0 request (Some entry) given }
     ensures pass { IsPass daemon.now.id N.name pass.new }
     ensures same { pass.new.number ≡ pass.old.number }
     ensures runs { RunsSeen N.name pass.new.number (parts_taken result) None pass.new.seen }

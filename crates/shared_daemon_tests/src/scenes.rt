@@ -2,8 +2,8 @@
 //! plugin.
 ghost use Rattle.std.specs.Prelude.{◌≡◌, ◌≤◌, [], ℕ, None, Some, IfOk, length, slice_get};
 ghost use Rattle.emulated_boards.specs.Boards.{BoardState};
+ghost use Rattle.history_keeper.specs.Signs.{signs_of};
 ghost use Rattle.daemon_core.specs.House.{IsNewBoard};
-ghost use Rattle.daemon_core.specs.Turns.{signs_of};
 ghost use Rattle.daemon_tasks.specs.Begins.{CanBegin};
 
 use crate::days::{Asks, Plan, day};
@@ -229,7 +229,7 @@ pub fn booted<R: Abort, K: Keeper>(
     requires fresh { (number : ℕ) (b : BoardState) → slice_get boards.items number ≡ Some b → IsNewBoard b }
     requires no_doubt { K.doubt keeper ≡ None }
     requires pool { facts.pool ≤ 16384 }
-    ensures { CanBegin (signs_of K.tells K.faults) result }
+    ensures { CanBegin (signs_of K.tells K.doubt K.faults) result }
 {
     let Ok(pool) = Pool::new(alloc, facts.pool) else {
         panic!(rt; "no memory")
@@ -257,7 +257,7 @@ fn named_day<R: Abort + Wait, K: Keeper + Drop, G: Gate>(
     shelf: &mut MemoryShelf,
     asks: &Asks<G>,
 ) -> Refusal
-    requires { CanBegin (signs_of K.tells K.faults) house }
+    requires { CanBegin (signs_of K.tells K.doubt K.faults) house }
 {
     house.known();
     day::<R, K, Brand, G>(rt, alloc, house, shelf, asks)

@@ -9,12 +9,11 @@ use Rattle.update_log.proofs.Openings.{EntriesFrom}
 use Rattle.update_log.proofs.Rows.{changed-grows}
 use Rattle.update_log.proofs.RowsKept.{GoesOn, fixed, fixed_row, goes_on-fixed, row_of-past}
 use Rattle.update_log.specs.Holding.{holds, without_client}
-use Rattle.update_log.specs.Known.{row_of, rows}
+use Rattle.update_log.specs.Known.{Basis, row_of, rows}
 use Rattle.update_log.specs.Legal.{Allowed, PendingAllowed, request_of_row}
 use Rattle.update_log.specs.Shows.{Campaign}
 use Rattle.update_log.specs.declared.answer.AskAnswer.{AskAnswer}
 use Rattle.update_log.specs.declared.event.Event.{Event}
-use Rattle.update_log.specs.declared.facts.Facts.{Facts}
 use Rattle.update_log.specs.declared.live.Held.{Held}
 use Rattle.update_log.specs.declared.request.Request.{Request}
 
@@ -27,8 +26,8 @@ abbrev pub IsOfRow : List Row → Held → Type 0
 IsOfRow all h = IfSome h.pending (RowMade all h.request)
 
 -- So is each hold of a past.
-abbrev pub HoldsMade : Facts → List Row → List Event → Type 0
-HoldsMade facts opening past = AllByRecursion (IsOfRow (rows facts opening past)) (holds past)
+abbrev pub HoldsMade : Basis → List Event → Type 0
+HoldsMade basis past = AllByRecursion (IsOfRow (rows basis past)) (holds past)
 
 pub goes_on-grows : (old new : List Row) → GoesOn old new → length old ≤ length new
 goes_on-grows old new (inl e) = omega (arith, ap length e)
@@ -47,30 +46,30 @@ row-within all e row v f =
     (λ t. let none : row_of all e ≡ None = row_of-past 1 all e v (leb-true (1 + length all) e t) in let bad : Some row ≡ None = sym f ∙ none in cc)
     (λ t. let lt = leb-false (1 + length all) e t in omega (arith, lt))
 
-made-own : (facts : Facts) (opening : List Row) (past : List Event) (client : ℕ) (request : Request) (o : Option ℕ) → EntriesFrom 1 (rows facts opening past) → IfSome o (λ entry. (row : Row) × PendingAllowed facts opening past client request entry row) → IfSome o (RowMade (rows facts opening past) request)
-made-own facts opening past client request None v k = tt
-made-own facts opening past client request (Some e) v k =
+made-own : (basis : Basis) (past : List Event) (client : ℕ) (request : Request) (o : Option ℕ) → EntriesFrom 1 (rows basis past) → IfSome o (λ entry. (row : Row) × PendingAllowed basis past client request entry row) → IfSome o (RowMade (rows basis past) request)
+made-own basis past client request None v k = tt
+made-own basis past client request (Some e) v k =
     let w = k.1 in
-    (row-within (rows facts opening past) e k.0 v w.row_is, (fixed k.0, ap (option_map fixed) w.row_is, w.request_is))
+    (row-within (rows basis past) e k.0 v w.row_is, (fixed k.0, ap (option_map fixed) w.row_is, w.request_is))
 
 fewer-made : (all : List Row) (client : ℕ) (hs : List Held) → AllByRecursion (IsOfRow all) hs → AllByRecursion (IsOfRow all) (without_client client hs)
 fewer-made all client hs k = All-filter (IsOfRow all) (IsOfRow all) (λ (h : Held). not (h.client == client)) hs k (λ h s _. s)
 
-step : (c : Campaign) (opening : List Row) (past : List Event) (event : Event) → EntriesFrom 1 (rows c.facts opening past) → Allowed c opening past event → HoldsMade c.facts opening past → AllByRecursion (IsOfRow (rows c.facts opening (event ∷ past))) (holds past)
-    → HoldsMade c.facts opening (event ∷ past)
-step c opening past (Event.Boot number time limit found boards) v a old k = tt
-step c opening past (Event.Ask client request pending (AskAnswer.Hold blocks release)) v a old k =
+step : (c : Campaign) (past : List Event) (event : Event) → EntriesFrom 1 (rows c.basis past) → Allowed c past event → HoldsMade c.basis past → AllByRecursion (IsOfRow (rows c.basis (event ∷ past))) (holds past)
+    → HoldsMade c.basis (event ∷ past)
+step c past (Event.Boot number time limit found boards) v a old k = tt
+step c past (Event.Ask client request pending (AskAnswer.Hold blocks release)) v a old k =
     let h : Held = record { client = client; request = request; pending = pending; blocks = blocks; release = release } in
-    All-push (IsOfRow (rows c.facts opening past)) (without_client client (holds past)) h (fewer-made (rows c.facts opening past) client (holds past) old) (made-own c.facts opening past client request pending v a.pending_is)
-step c opening past (Event.Claim client request fetched answer) v a old k = fewer-made (rows c.facts opening (Event.Claim client request fetched answer ∷ past)) client (holds past) k
-step c opening past (Event.Resume client entry fetched answer stored) v a old k = fewer-made (rows c.facts opening (Event.Resume client entry fetched answer stored ∷ past)) client (holds past) k
-step c opening past (Event.GiveBack client what) v a old k = fewer-made (rows c.facts opening (Event.GiveBack client what ∷ past)) client (holds past) k
-step c opening past _ v a old k = k
+    All-push (IsOfRow (rows c.basis past)) (without_client client (holds past)) h (fewer-made (rows c.basis past) client (holds past) old) (made-own c.basis past client request pending v a.pending_is)
+step c past (Event.Claim client request fetched answer) v a old k = fewer-made (rows c.basis (Event.Claim client request fetched answer ∷ past)) client (holds past) k
+step c past (Event.Resume client entry fetched answer stored) v a old k = fewer-made (rows c.basis (Event.Resume client entry fetched answer stored ∷ past)) client (holds past) k
+step c past (Event.GiveBack client what) v a old k = fewer-made (rows c.basis (Event.GiveBack client what ∷ past)) client (holds past) k
+step c past _ v a old k = k
 
-pub holds-step : (c : Campaign) (opening : List Row) (past : List Event) (event : Event) → EntriesFrom 1 (rows c.facts opening past) → GoesOn (rows c.facts opening past) (rows c.facts opening (event ∷ past)) → Allowed c opening past event → HoldsMade c.facts opening past → HoldsMade c.facts opening (event ∷ past)
-holds-step c opening past event v g a old =
-    step c opening past event v a old
-    (All-map (IsOfRow (rows c.facts opening past)) (IsOfRow (rows c.facts opening (event ∷ past))) (holds past) old (λ h k. made-on (rows c.facts opening past) (rows c.facts opening (event ∷ past)) h.request h.pending g k))
+pub holds-step : (c : Campaign) (past : List Event) (event : Event) → EntriesFrom 1 (rows c.basis past) → GoesOn (rows c.basis past) (rows c.basis (event ∷ past)) → Allowed c past event → HoldsMade c.basis past → HoldsMade c.basis (event ∷ past)
+holds-step c past event v g a old =
+    step c past event v a old
+    (All-map (IsOfRow (rows c.basis past)) (IsOfRow (rows c.basis (event ∷ past))) (holds past) old (λ h k. made-on (rows c.basis past) (rows c.basis (event ∷ past)) h.request h.pending g k))
 
 -- The request of a hold that a row made is that of the row as it is now.
 pub request-made : (all : List Row) (h : Held) (entry : ℕ) (row : Row) → IsOfRow all h → h.pending ≡ Some entry → row_of all entry ≡ Some row → h.request ≡ request_of_row row

@@ -22,7 +22,7 @@ use Rattle.update_log.proofs.Unlimited.{boot-runs, unlimited}
 use Rattle.update_log.proofs.WaitsKept.{IsAccepted, WaitKept, accepted-schedule, asks, decided-not, doubted-claim, doubted-schedule, wait-kept, wait-kept-on}
 use Rattle.update_log.proofs.WaitsOnce.{only-state, state_of}
 use Rattle.update_log.specs.Holding.{live}
-use Rattle.update_log.specs.Known.{Fate, Target, advance, doubt, doubt_by, doubt_found, fate_answered, fate_stored, known, new_row, reason_of, refusal_number, row_of, rows, rows_by, rows_found, target, views}
+use Rattle.update_log.specs.Known.{Basis, Fate, Target, advance, doubt, doubt_by, doubt_found, fate_answered, fate_stored, known, new_row, reason_of, refusal_number, row_of, rows, rows_by, rows_found, target, views}
 use Rattle.update_log.specs.Legal.{Allowed, BootRuns, ClaimAllowed, FinishAllowed, IsLegal, IsLegalUnlimited, Legal, ResumeAllowed, ScheduleAllowed, may_judge, next_entry}
 use Rattle.update_log.specs.Pasts.{is_keeper_fault, off, past_of, time_of}
 use Rattle.update_log.specs.Shows.{Campaign}
@@ -34,7 +34,6 @@ use Rattle.update_log.specs.declared.event.BoardSeen.{BoardSeen}
 use Rattle.update_log.specs.declared.event.Event.{Event}
 use Rattle.update_log.specs.declared.event.Found.{Found}
 use Rattle.update_log.specs.declared.event.Stored.{Stored}
-use Rattle.update_log.specs.declared.facts.Facts.{Facts}
 use Rattle.update_log.specs.declared.live.Held.{Held}
 use Rattle.update_log.specs.declared.live.LiveEntry.{LiveEntry}
 use Rattle.update_log.specs.declared.refusal.FetchNote.{FetchNote}
@@ -43,14 +42,14 @@ use Rattle.update_log.specs.declared.refusal.RetryFault.{RetryFault}
 use Rattle.update_log.specs.declared.request.Request.{Request}
 
 -- What each legal past keeps of the links, and how its failed rows go on.
-pub record LinkKept (facts : Facts) (opening : List Row) (past : List Event) : Type 0 where
-  pub linked : AllLinked (rows facts opening past)
-  pub once : TriedOnce (rows facts opening past)
-  pub doubt_links : IfSome (doubt facts opening past) (λ c. KeepsLinks c (rows facts opening past))
+pub record LinkKept (basis : Basis) (past : List Event) : Type 0 where
+  pub linked : AllLinked (rows basis past)
+  pub once : TriedOnce (rows basis past)
+  pub doubt_links : IfSome (doubt basis past) (λ c. KeepsLinks c (rows basis past))
 
-pub record LinkStep (facts : Facts) (opening : List Row) (past : List Event) (event : Event) : Type 0 where
-  pub kept : LinkKept facts opening (event ∷ past)
-  pub failures : KeepsFailures (rows facts opening past) (rows facts opening (event ∷ past))
+pub record LinkStep (basis : Basis) (past : List Event) (event : Event) : Type 0 where
+  pub kept : LinkKept basis (event ∷ past)
+  pub failures : KeepsFailures (rows basis past) (rows basis (event ∷ past))
 
 -- ---- a request that is accepted names a row that it can try again, if any
 
@@ -105,21 +104,21 @@ request-can c t (Some entry) own v h =
     named-can c t entry (row_of c.rows entry) own v refl (map-none (λ fault. Refusal.Retry fault) (fault_of c t entry (row_of c.rows entry)) h)
 
 -- The change that such a request asks for keeps the links.
-accept-links : (facts : Facts) (opening : List Row) (past : List Event) (client : ℕ) (request : Request) (stage : Stage) (state : RowState) → pending_of stage ≡ None → EntriesFrom 1 (rows facts opening past) → IsAccepted (verdict facts opening past client request stage) → IfSome (asks facts opening past client request state) (λ c. KeepsLinks c (rows facts opening past))
-accept-links facts opening past client request stage state own v d =
-    let u = accepts-target (case_of facts opening past client request stage) d.0 d.1 d.2 d.3 in
+accept-links : (basis : Basis) (past : List Event) (client : ℕ) (request : Request) (stage : Stage) (state : RowState) → pending_of stage ≡ None → EntriesFrom 1 (rows basis past) → IsAccepted (verdict basis past client request stage) → IfSome (asks basis past client request state) (λ c. KeepsLinks c (rows basis past))
+accept-links basis past client request stage state own v d =
+    let u = accepts-target (case_of basis past client request stage) d.0 d.1 d.2 d.3 in
     let t : Target = u.0 in
     let has = u.1 in
-    let n : NoneRefuses (case_of facts opening past client request stage) t = has.none in
-    subst (λ (o : Option Target). IfSome (option_map (λ x. Change.Add (new_row (length (rows facts opening past) + 1) (time_of past) client request state x)) o) (λ c. KeepsLinks c (rows facts opening past)))
+    let n : NoneRefuses (case_of basis past client request stage) t = has.none in
+    subst (λ (o : Option Target). IfSome (option_map (λ x. Change.Add (new_row (length (rows basis past) + 1) (time_of past) client request state x)) o) (λ c. KeepsLinks c (rows basis past)))
     (sym has.found)
-    (request-can (case_of facts opening past client request stage) t request.retry_of own v n.is_retry)
+    (request-can (case_of basis past client request stage) t request.retry_of own v n.is_retry)
 
 -- ---- one event more
 
 -- an event that leaves the rows and the doubt
-link-same : (facts : Facts) (opening : List Row) (past : List Event) (event : Event) → LinkKept facts opening past → rows facts opening (event ∷ past) ≡ rows facts opening past → doubt facts opening (event ∷ past) ≡ doubt facts opening past → LinkStep facts opening past event
-link-same facts opening past event k r d =
+link-same : (basis : Basis) (past : List Event) (event : Event) → LinkKept basis past → rows basis (event ∷ past) ≡ rows basis past → doubt basis (event ∷ past) ≡ doubt basis past → LinkStep basis past event
+link-same basis past event k r d =
     record {
       kept = record {
         linked = subst AllLinked (sym r) k.linked;
@@ -130,15 +129,15 @@ link-same facts opening past event k r d =
     }
 
 -- an event that asks for a change
-link-asked : (facts : Facts) (opening : List Row) (past : List Event) (event : Event) (fate : Fate) (change : Option Change) → LinkKept facts opening past → doubt facts opening past ≡ None → IfSome change (λ c. KeepsLinks c (rows facts opening past)) → rows facts opening (event ∷ past) ≡ rows_by fate change (rows facts opening past) → doubt facts opening (event ∷ past) ≡ doubt_by fate change (doubt facts opening past) → LinkStep facts opening past event
-link-asked facts opening past event fate change k none n r d =
+link-asked : (basis : Basis) (past : List Event) (event : Event) (fate : Fate) (change : Option Change) → LinkKept basis past → doubt basis past ≡ None → IfSome change (λ c. KeepsLinks c (rows basis past)) → rows basis (event ∷ past) ≡ rows_by fate change (rows basis past) → doubt basis (event ∷ past) ≡ doubt_by fate change (doubt basis past) → LinkStep basis past event
+link-asked basis past event fate change k none n r d =
     record {
       kept = record {
-        linked = subst AllLinked (sym r) (by-links fate change (rows facts opening past) n k.linked);
-        once = subst TriedOnce (sym r) (by-tried fate change (rows facts opening past) n k.once);
-        doubt_links = rw (d, r, none) (next fate change (rows facts opening past) n);
+        linked = subst AllLinked (sym r) (by-links fate change (rows basis past) n k.linked);
+        once = subst TriedOnce (sym r) (by-tried fate change (rows basis past) n k.once);
+        doubt_links = rw (d, r, none) (next fate change (rows basis past) n);
       };
-      failures = subst (KeepsFailures (rows facts opening past)) (sym r) (by-failures fate change (rows facts opening past) n);
+      failures = subst (KeepsFailures (rows basis past)) (sym r) (by-failures fate change (rows basis past) n);
     }
   where
     next : (fate : Fate) (change : Option Change) (rows : List Row) → IfSome change (λ c. KeepsLinks c rows) → IfSome (doubt_by fate change None) (λ c. KeepsLinks c (rows_by fate change rows))
@@ -146,15 +145,15 @@ link-asked facts opening past event fate change k none n r d =
     next Fate.Dropped change rows h = tt
     next Fate.Doubtful change rows h = h
 
-link-boot : (facts : Facts) (opening : List Row) (past : List Event) (number time : ℕ) (limit : Option ℕ) (found : Found) (boards : List BoardSeen) → LinkKept facts opening past → LinkStep facts opening past (Event.Boot number time limit found boards)
-link-boot facts opening past number time limit found boards k =
+link-boot : (basis : Basis) (past : List Event) (number time : ℕ) (limit : Option ℕ) (found : Found) (boards : List BoardSeen) → LinkKept basis past → LinkStep basis past (Event.Boot number time limit found boards)
+link-boot basis past number time limit found boards k =
     record {
       kept = record {
-        linked = found-links found (doubt facts opening past) (rows facts opening past) k.doubt_links k.linked;
-        once = found-tried found (doubt facts opening past) (rows facts opening past) k.doubt_links k.once;
-        doubt_links = next found (doubt facts opening past) (rows facts opening past) k.doubt_links;
+        linked = found-links found (doubt basis past) (rows basis past) k.doubt_links k.linked;
+        once = found-tried found (doubt basis past) (rows basis past) k.doubt_links k.once;
+        doubt_links = next found (doubt basis past) (rows basis past) k.doubt_links;
       };
-      failures = found-failures found (doubt facts opening past) (rows facts opening past) k.doubt_links;
+      failures = found-failures found (doubt basis past) (rows basis past) k.doubt_links;
     }
   where
     next : (found : Found) (doubt : Option Change) (rows : List Row) → IfSome doubt (λ c. KeepsLinks c rows) → IfSome (doubt_found found doubt) (λ c. KeepsLinks c (rows_found found doubt rows))
@@ -164,117 +163,117 @@ link-boot facts opening past number time limit found boards k =
     next Found.Fault doubt rows h = h
 
 -- a row in a state that isn't failed may get another one
-unfailed : (facts : Facts) (opening : List Row) (past : List Event) (entry : ℕ) (state : RowState) → RowsKept facts opening past → state_of (rows facts opening past) entry ≡ Some state → is_failed state ≡ false → AllByRecursion (λ r. (r.entry == entry) ≡ true → is_failed r.state ≡ false) (rows facts opening past)
-unfailed facts opening past entry state r is f = only-state (λ s. is_failed s ≡ false) 1 (rows facts opening past) entry state r.valid.entries is f
+unfailed : (basis : Basis) (past : List Event) (entry : ℕ) (state : RowState) → RowsKept basis past → state_of (rows basis past) entry ≡ Some state → is_failed state ≡ false → AllByRecursion (λ r. (r.entry == entry) ≡ true → is_failed r.state ≡ false) (rows basis past)
+unfailed basis past entry state r is f = only-state (λ s. is_failed s ≡ false) 1 (rows basis past) entry state r.valid.entries is f
 
-link-claim : (facts : Facts) (opening : List Row) (past : List Event) (client : ℕ) (request : Request) (fetched : FetchNote) (answer : ClaimAnswer) (held : Held) → LinkKept facts opening past → RowsKept facts opening past → off past ≡ false → ClaimAllowed facts opening past client request fetched answer held → LinkStep facts opening past (Event.Claim client request fetched answer)
-link-claim facts opening past client request fetched (ClaimAnswer.Kept entry state) held k r o a =
-    link-same facts opening past (Event.Claim client request fetched (ClaimAnswer.Kept entry state)) k refl refl
-link-claim facts opening past client request fetched (ClaimAnswer.Entry entry) held k r o a =
-    let d = accepted-claim fetched (target facts (views facts opening past) request) (next_entry facts opening past) (verdict facts opening past client request (Stage.Claim held.release)) entry a.answer_is in
-    link-asked facts opening past (Event.Claim client request fetched (ClaimAnswer.Entry entry)) Fate.Made _ k (r.doubt_off o)
-    (accept-links facts opening past client request (Stage.Claim held.release) RowState.Begun refl r.valid.entries (d.0, d.1, d.2, d.3))
+link-claim : (basis : Basis) (past : List Event) (client : ℕ) (request : Request) (fetched : FetchNote) (answer : ClaimAnswer) (held : Held) → LinkKept basis past → RowsKept basis past → off past ≡ false → ClaimAllowed basis past client request fetched answer held → LinkStep basis past (Event.Claim client request fetched answer)
+link-claim basis past client request fetched (ClaimAnswer.Kept entry state) held k r o a =
+    link-same basis past (Event.Claim client request fetched (ClaimAnswer.Kept entry state)) k refl refl
+link-claim basis past client request fetched (ClaimAnswer.Entry entry) held k r o a =
+    let d = accepted-claim fetched (target basis.facts (views basis past) request) (next_entry basis past) (verdict basis past client request (Stage.Claim held.release)) entry a.answer_is in
+    link-asked basis past (Event.Claim client request fetched (ClaimAnswer.Entry entry)) Fate.Made _ k (r.doubt_off o)
+    (accept-links basis past client request (Stage.Claim held.release) RowState.Begun refl r.valid.entries (d.0, d.1, d.2, d.3))
     refl refl
-link-claim facts opening past client request fetched (ClaimAnswer.Refused refusal) held k r o a =
+link-claim basis past client request fetched (ClaimAnswer.Refused refusal) held k r o a =
     by_test (is_keeper_fault refusal) _
-    (λ f. link-asked facts opening past event (fate_answered (ClaimAnswer.Refused refusal)) (asks facts opening past client request RowState.Begun) k (r.doubt_off o)
-    (accept-links facts opening past client request (Stage.Claim held.release) RowState.Begun refl r.valid.entries
-    (doubted-claim fetched (target facts (views facts opening past) request) (next_entry facts opening past) (verdict facts opening past client request (Stage.Claim held.release)) refusal a.answer_is f
-    (decided-not (case_of facts opening past client request (Stage.Claim held.release)))))
+    (λ f. link-asked basis past event (fate_answered (ClaimAnswer.Refused refusal)) (asks basis past client request RowState.Begun) k (r.doubt_off o)
+    (accept-links basis past client request (Stage.Claim held.release) RowState.Begun refl r.valid.entries
+    (doubted-claim fetched (target basis.facts (views basis past) request) (next_entry basis past) (verdict basis past client request (Stage.Claim held.release)) refusal a.answer_is f
+    (decided-not (case_of basis past client request (Stage.Claim held.release)))))
     refl refl)
-    (λ f. link-same facts opening past event k (rows_by-refused (is_keeper_fault refusal) (asks facts opening past client request RowState.Begun) (rows facts opening past)) (rw f refl))
+    (λ f. link-same basis past event k (rows_by-refused (is_keeper_fault refusal) (asks basis past client request RowState.Begun) (rows basis past)) (rw f refl))
   where
     event : Event
     event = Event.Claim client request fetched (ClaimAnswer.Refused refusal)
 
-link-schedule : (facts : Facts) (opening : List Row) (past : List Event) (client : ℕ) (request : Request) (answer : ClaimAnswer) → LinkKept facts opening past → RowsKept facts opening past → off past ≡ false → ScheduleAllowed facts opening past client request answer → LinkStep facts opening past (Event.Schedule client request answer)
-link-schedule facts opening past client request (ClaimAnswer.Kept entry state) k r o a =
-    link-same facts opening past (Event.Schedule client request (ClaimAnswer.Kept entry state)) k refl refl
-link-schedule facts opening past client request (ClaimAnswer.Entry entry) k r o a =
-    link-asked facts opening past (Event.Schedule client request (ClaimAnswer.Entry entry)) Fate.Made _ k (r.doubt_off o)
-    (accept-links facts opening past client request Stage.Schedule RowState.Pending refl r.valid.entries
-    (accepted-schedule (next_entry facts opening past) (verdict facts opening past client request Stage.Schedule) entry a.answer_is))
+link-schedule : (basis : Basis) (past : List Event) (client : ℕ) (request : Request) (answer : ClaimAnswer) → LinkKept basis past → RowsKept basis past → off past ≡ false → ScheduleAllowed basis past client request answer → LinkStep basis past (Event.Schedule client request answer)
+link-schedule basis past client request (ClaimAnswer.Kept entry state) k r o a =
+    link-same basis past (Event.Schedule client request (ClaimAnswer.Kept entry state)) k refl refl
+link-schedule basis past client request (ClaimAnswer.Entry entry) k r o a =
+    link-asked basis past (Event.Schedule client request (ClaimAnswer.Entry entry)) Fate.Made _ k (r.doubt_off o)
+    (accept-links basis past client request Stage.Schedule RowState.Pending refl r.valid.entries
+    (accepted-schedule (next_entry basis past) (verdict basis past client request Stage.Schedule) entry a.answer_is))
     refl refl
-link-schedule facts opening past client request (ClaimAnswer.Refused refusal) k r o a =
+link-schedule basis past client request (ClaimAnswer.Refused refusal) k r o a =
     by_test (is_keeper_fault refusal) _
-    (λ f. link-asked facts opening past event (fate_answered (ClaimAnswer.Refused refusal)) (asks facts opening past client request RowState.Pending) k (r.doubt_off o)
-    (accept-links facts opening past client request Stage.Schedule RowState.Pending refl r.valid.entries
-    (doubted-schedule (next_entry facts opening past) (verdict facts opening past client request Stage.Schedule) refusal a.answer_is f
-    (decided-not (case_of facts opening past client request Stage.Schedule))))
+    (λ f. link-asked basis past event (fate_answered (ClaimAnswer.Refused refusal)) (asks basis past client request RowState.Pending) k (r.doubt_off o)
+    (accept-links basis past client request Stage.Schedule RowState.Pending refl r.valid.entries
+    (doubted-schedule (next_entry basis past) (verdict basis past client request Stage.Schedule) refusal a.answer_is f
+    (decided-not (case_of basis past client request Stage.Schedule))))
     refl refl)
-    (λ f. link-same facts opening past event k (rows_by-refused (is_keeper_fault refusal) (asks facts opening past client request RowState.Pending) (rows facts opening past)) (rw f refl))
+    (λ f. link-same basis past event k (rows_by-refused (is_keeper_fault refusal) (asks basis past client request RowState.Pending) (rows basis past)) (rw f refl))
   where
     event : Event
     event = Event.Schedule client request (ClaimAnswer.Refused refusal)
 
 -- a row that is resumed is pending, one that is finished is begun, and one that is judged is begun or waits for a boot
-link-resume : (facts : Facts) (opening : List Row) (past : List Event) (client entry : ℕ) (fetched : Option FetchNote) (answer : ResumeAnswer) (stored : Stored) (row : Row) → LinkKept facts opening past → RowsKept facts opening past → off past ≡ false → ResumeAllowed facts opening past client entry fetched answer stored row → LinkStep facts opening past (Event.Resume client entry fetched answer stored)
-link-resume facts opening past client entry fetched ResumeAnswer.Begun stored row k r o a =
-    link-asked facts opening past (Event.Resume client entry fetched ResumeAnswer.Begun stored) (fate_stored stored) (advance (time_of past) (known facts opening past) entry RowState.Begun) k (r.doubt_off o)
-    (unfailed facts opening past entry RowState.Pending r (ap (option_map (λ x. x.state)) a.row_is ∙ ap Some a.pending) refl) refl refl
-link-resume facts opening past client entry fetched (ResumeAnswer.Refused refusal) stored row k r o a =
+link-resume : (basis : Basis) (past : List Event) (client entry : ℕ) (fetched : Option FetchNote) (answer : ResumeAnswer) (stored : Stored) (row : Row) → LinkKept basis past → RowsKept basis past → off past ≡ false → ResumeAllowed basis past client entry fetched answer stored row → LinkStep basis past (Event.Resume client entry fetched answer stored)
+link-resume basis past client entry fetched ResumeAnswer.Begun stored row k r o a =
+    link-asked basis past (Event.Resume client entry fetched ResumeAnswer.Begun stored) (fate_stored stored) (advance (time_of past) (known basis past) entry RowState.Begun) k (r.doubt_off o)
+    (unfailed basis past entry RowState.Pending r (ap (option_map (λ x. x.state)) a.row_is ∙ ap Some a.pending) refl) refl refl
+link-resume basis past client entry fetched (ResumeAnswer.Refused refusal) stored row k r o a =
     by_test (is_keeper_fault refusal) _
-    (λ t. link-asked facts opening past event (fate_stored stored) (Some (Change.Advance entry RowState.Begun (reason_of (rows facts opening past) entry) (time_of past))) k (r.doubt_off o)
+    (λ t. link-asked basis past event (fate_stored stored) (Some (Change.Advance entry RowState.Begun (reason_of (rows basis past) entry) (time_of past))) k (r.doubt_off o)
     pending (rw t refl) (rw t refl))
-    (λ t. link-asked facts opening past event (fate_stored stored) (Some (Change.Advance entry RowState.Failed (refusal_number refusal) (time_of past))) k (r.doubt_off o)
+    (λ t. link-asked basis past event (fate_stored stored) (Some (Change.Advance entry RowState.Failed (refusal_number refusal) (time_of past))) k (r.doubt_off o)
     pending (rw t refl) (rw t refl))
   where
     event : Event
     event = Event.Resume client entry fetched (ResumeAnswer.Refused refusal) stored
 
-    pending : AllByRecursion (λ x. (x.entry == entry) ≡ true → is_failed x.state ≡ false) (rows facts opening past)
-    pending = unfailed facts opening past entry RowState.Pending r (ap (option_map (λ x. x.state)) a.row_is ∙ ap Some a.pending) refl
+    pending : AllByRecursion (λ x. (x.entry == entry) ≡ true → is_failed x.state ≡ false) (rows basis past)
+    pending = unfailed basis past entry RowState.Pending r (ap (option_map (λ x. x.state)) a.row_is ∙ ap Some a.pending) refl
 
-link-finish : (facts : Facts) (opening : List Row) (past : List Event) (client entry : ℕ) (state : RowState) (stored : Stored) (l : LiveEntry) (closed : RowState) → LinkKept facts opening past → WaitKept facts opening past → RowsKept facts opening past → off past ≡ false → FinishAllowed facts opening past client entry state stored l closed → LinkStep facts opening past (Event.Finish client entry state stored)
-link-finish facts opening past client entry state stored l closed k w r o a =
+link-finish : (basis : Basis) (past : List Event) (client entry : ℕ) (state : RowState) (stored : Stored) (l : LiveEntry) (closed : RowState) → LinkKept basis past → WaitKept basis past → RowsKept basis past → off past ≡ false → FinishAllowed basis past client entry state stored l closed → LinkStep basis past (Event.Finish client entry state stored)
+link-finish basis past client entry state stored l closed k w r o a =
     let same : l.entry ≡ entry = eqb-true l.entry entry (find-passes (λ x. x.entry == entry) (live past) l a.live) in
-    let at : state_of (rows facts opening past) l.entry ≡ Some RowState.Begun = All-find (λ x. state_of (rows facts opening past) x.entry ≡ Some RowState.Begun) (λ x. x.entry == entry) (live past) l w.begun a.live in
-    let is : state_of (rows facts opening past) entry ≡ Some RowState.Begun = ap (state_of (rows facts opening past)) (sym same) ∙ at in
-    link-asked facts opening past (Event.Finish client entry state stored) (fate_stored stored) (advance (time_of past) (known facts opening past) entry state) k (r.doubt_off o)
-    (unfailed facts opening past entry RowState.Begun r is refl) refl refl
+    let at : state_of (rows basis past) l.entry ≡ Some RowState.Begun = All-find (λ x. state_of (rows basis past) x.entry ≡ Some RowState.Begun) (λ x. x.entry == entry) (live past) l w.begun a.live in
+    let is : state_of (rows basis past) entry ≡ Some RowState.Begun = ap (state_of (rows basis past)) (sym same) ∙ at in
+    link-asked basis past (Event.Finish client entry state stored) (fate_stored stored) (advance (time_of past) (known basis past) entry state) k (r.doubt_off o)
+    (unfailed basis past entry RowState.Begun r is refl) refl refl
 
 judged-unfailed : (past : List Event) (entry : ℕ) (state : RowState) → may_judge past state entry ≡ true → is_failed state ≡ false
 judged-unfailed past entry RowState.Failed h = cc
 judged-unfailed past entry _ h = refl
 
-link-judge : (facts : Facts) (opening : List Row) (past : List Event) (client entry : ℕ) (version : List ℕ) (state : RowState) (stored : Stored) (row : Row) → LinkKept facts opening past → RowsKept facts opening past → off past ≡ false → row_of (rows facts opening past) entry ≡ Some row → may_judge past row.state entry ≡ true → LinkStep facts opening past (Event.Judge client entry version state stored)
-link-judge facts opening past client entry version state stored row k r o is waits =
-    link-asked facts opening past (Event.Judge client entry version state stored) (fate_stored stored) (advance (time_of past) (known facts opening past) entry state) k (r.doubt_off o)
-    (unfailed facts opening past entry row.state r (ap (option_map (λ x. x.state)) is) (judged-unfailed past entry row.state waits)) refl refl
+link-judge : (basis : Basis) (past : List Event) (client entry : ℕ) (version : List ℕ) (state : RowState) (stored : Stored) (row : Row) → LinkKept basis past → RowsKept basis past → off past ≡ false → row_of (rows basis past) entry ≡ Some row → may_judge past row.state entry ≡ true → LinkStep basis past (Event.Judge client entry version state stored)
+link-judge basis past client entry version state stored row k r o is waits =
+    link-asked basis past (Event.Judge client entry version state stored) (fate_stored stored) (advance (time_of past) (known basis past) entry state) k (r.doubt_off o)
+    (unfailed basis past entry row.state r (ap (option_map (λ x. x.state)) is) (judged-unfailed past entry row.state waits)) refl refl
 
-link-step : (c : Campaign) (opening : List Row) (past : List Event) (event : Event) → LinkKept c.facts opening past → WaitKept c.facts opening past → RowsKept c.facts opening past → BootRuns past event → Allowed c opening past event → LinkStep c.facts opening past event
-link-step c opening past (Event.Boot number time limit found boards) k w r b a = link-boot c.facts opening past number time limit found boards k
-link-step c opening past (Event.Claim client request fetched answer) k w r b a = link-claim c.facts opening past client request fetched answer a.0 k r (b.on refl) a.1
-link-step c opening past (Event.Schedule client request answer) k w r b a = link-schedule c.facts opening past client request answer k r (b.on refl) a
-link-step c opening past (Event.Resume client entry fetched answer stored) k w r b a = link-resume c.facts opening past client entry fetched answer stored a.0 k r (b.on refl) a.1
-link-step c opening past (Event.Finish client entry state stored) k w r b a = link-finish c.facts opening past client entry state stored a.0 a.1 k w r (b.on refl) a.2
-link-step c opening past (Event.Judge client entry version state stored) k w r b a =
-    let j = a.2 in link-judge c.facts opening past client entry version state stored a.0 k r (b.on refl) j.row_is j.waits
-link-step c opening past event k w r b a = link-same c.facts opening past event k refl refl
+link-step : (c : Campaign) (past : List Event) (event : Event) → LinkKept c.basis past → WaitKept c.basis past → RowsKept c.basis past → BootRuns past event → Allowed c past event → LinkStep c.basis past event
+link-step c past (Event.Boot number time limit found boards) k w r b a = link-boot c.basis past number time limit found boards k
+link-step c past (Event.Claim client request fetched answer) k w r b a = link-claim c.basis past client request fetched answer a.0 k r (b.on refl) a.1
+link-step c past (Event.Schedule client request answer) k w r b a = link-schedule c.basis past client request answer k r (b.on refl) a
+link-step c past (Event.Resume client entry fetched answer stored) k w r b a = link-resume c.basis past client entry fetched answer stored a.0 k r (b.on refl) a.1
+link-step c past (Event.Finish client entry state stored) k w r b a = link-finish c.basis past client entry state stored a.0 a.1 k w r (b.on refl) a.2
+link-step c past (Event.Judge client entry version state stored) k w r b a =
+    let j = a.2 in link-judge c.basis past client entry version state stored a.0 k r (b.on refl) j.row_is j.waits
+link-step c past event k w r b a = link-same c.basis past event k refl refl
 
 -- ---- all events
 
-pub link-kept-on : (c : Campaign) (opening : List Row) (past : List Event) → IsHistory opening → IsLegalUnlimited c opening past → LinkKept c.facts opening past
-link-kept-on c opening [] valid legal =
-    record { linked = all-linked opening (entries-from 1 opening valid.entries) valid.linked; once = tried-once opening valid.retried; doubt_links = tt }
-link-kept-on c opening (event ∷ past) valid legal =
-    let k = past-kept-on c opening past valid legal.0 in
-    let s = link-step c opening past event (link-kept-on c opening past valid legal.0) (wait-kept-on c opening past valid legal.0) k.rows_kept legal.1 legal.2 in
+pub link-kept-on : (c : Campaign) (past : List Event) → IsHistory c.basis.opening → IsLegalUnlimited c past → LinkKept c.basis past
+link-kept-on c [] valid legal =
+    record { linked = all-linked c.basis.opening (entries-from 1 c.basis.opening valid.entries) valid.linked; once = tried-once c.basis.opening valid.retried; doubt_links = tt }
+link-kept-on c (event ∷ past) valid legal =
+    let k = past-kept-on c past valid legal.0 in
+    let s = link-step c past event (link-kept-on c past valid legal.0) (wait-kept-on c past valid legal.0) k.rows_kept legal.1 legal.2 in
     s.kept
 
 -- The same of legal pasts.
-pub link-kept : (c : Campaign) (opening : List Row) (past : List Event) → IsHistory opening → IsLegal c opening past → LinkKept c.facts opening past
-link-kept c opening past valid legal = link-kept-on c opening past valid (unlimited c opening past legal)
+pub link-kept : (c : Campaign) (past : List Event) → IsHistory c.basis.opening → IsLegal c past → LinkKept c.basis past
+link-kept c past valid legal = link-kept-on c past valid (unlimited c past legal)
 
-failed-later : (c : Campaign) (opening : List Row) (late past : List Event) → IsHistory opening → IsLegal c opening (late ++ past) → KeepsFailures (rows c.facts opening past) (rows c.facts opening (late ++ past))
-failed-later c opening [] past valid legal = λ entry r is f. is
-failed-later c opening (event ∷ late) past valid legal = λ entry r is f.
-    let k = past-kept c opening (late ++ past) valid legal.0 in
-    let s = link-step c opening (late ++ past) event (link-kept c opening (late ++ past) valid legal.0) (wait-kept c opening (late ++ past) valid legal.0) k.rows_kept (boot-runs (late ++ past) event legal.1) legal.2 in
-    s.failures entry r (failed-later c opening late past valid legal.0 entry r is f) f
+failed-later : (c : Campaign) (late past : List Event) → IsHistory c.basis.opening → IsLegal c (late ++ past) → KeepsFailures (rows c.basis past) (rows c.basis (late ++ past))
+failed-later c [] past valid legal = λ entry r is f. is
+failed-later c (event ∷ late) past valid legal = λ entry r is f.
+    let k = past-kept c (late ++ past) valid legal.0 in
+    let s = link-step c (late ++ past) event (link-kept c (late ++ past) valid legal.0) (wait-kept c (late ++ past) valid legal.0) k.rows_kept (boot-runs (late ++ past) event legal.1) legal.2 in
+    s.failures entry r (failed-later c late past valid legal.0 entry r is f) f
 
-pub failed-stays : (c : Campaign) (opening : List Row) (log later : List Event) (entry : ℕ) (row : Row) → IsHistory opening → Legal c opening (log ++ later) → row_of (rows c.facts opening (past_of log)) entry ≡ Some row → row.state ≡ RowState.Failed → row_of (rows c.facts opening (past_of (log ++ later))) entry ≡ Some row
-failed-stays c opening log later entry row valid legal is failed =
+pub failed-stays : (c : Campaign) (log later : List Event) (entry : ℕ) (row : Row) → IsHistory c.basis.opening → Legal c (log ++ later) → row_of (rows c.basis (past_of log)) entry ≡ Some row → row.state ≡ RowState.Failed → row_of (rows c.basis (past_of (log ++ later))) entry ≡ Some row
+failed-stays c log later entry row valid legal is failed =
     let split : past_of (log ++ later) ≡ past_of later ++ past_of log = reverse-append log later in
-    subst (λ (past : List Event). row_of (rows c.facts opening past) entry ≡ Some row) (sym split)
-    (failed-later c opening (past_of later) (past_of log) valid (subst (IsLegal c opening) split legal) entry row is (ap is_failed failed))
+    subst (λ (past : List Event). row_of (rows c.basis past) entry ≡ Some row) (sym split)
+    (failed-later c (past_of later) (past_of log) valid (subst (IsLegal c) split legal) entry row is (ap is_failed failed))

@@ -103,3 +103,6 @@ map-none f (Some x) h = cc
 -- a filter keeps no more than there are
 pub filter-short : {X : Type 0} (p : X → Bool) (xs : List X) → length (filter p xs) ≤ length xs
 filter-short p xs = rw (length-filter p xs) (count_by-le-length p xs)
+
+pub turned : (a b : ℕ) → (a == b) ≡ false → (b == a) ≡ false
+turned a b h = eqb-other b a (λ s. let t : (a == b) ≡ true = rw s (eqb-self a) in cc)

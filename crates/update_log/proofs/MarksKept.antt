@@ -15,7 +15,7 @@ use Rattle.update_log.proofs.StepsKept.{OpenKept, StepsKept, not-fresh, open-sta
 use Rattle.update_log.proofs.StrokeFacts.{writes}
 use Rattle.update_log.proofs.TakenKept.{Taken, TakenKept}
 use Rattle.update_log.specs.Holding.{open_steps}
-use Rattle.update_log.specs.Known.{board_of, is_board_of, row_of, rows, seen}
+use Rattle.update_log.specs.Known.{Basis, board_of, is_board_of, row_of, rows, seen}
 use Rattle.update_log.specs.Legal.{BoardListed, BootAllowed, EndAllowed, open_marks, open_on}
 use Rattle.update_log.specs.Once.{AfterStart, HasDigest, Stroke, entry_named, how_many, is_like, is_write, starts_write, strokes}
 use Rattle.update_log.specs.Shows.{Campaign, IsPrefix, digest_of, marks, told, told_by, untold_of}
@@ -104,48 +104,48 @@ prefix-few Op.Write entry digest (m ∷ m' ∷ []) mark e p n = rw (p.0, p.1.0) 
 prefix-few Op.Write entry digest (m ∷ m' ∷ m'' ∷ ms) mark e p n = absurd p.1.1
 
 -- what is kept of a mark of a write
-pub record MarkOf (facts : Facts) (opening : List Row) (past : List Event) (board : ℕ) (mark : Mark) (entry : ℕ) : Type 0 where
-  pub known : entry ≤ length (rows facts opening past)
-  pub board_is : board_of facts (rows facts opening past) entry ≡ Some board
+pub record MarkOf (basis : Basis) (past : List Event) (board : ℕ) (mark : Mark) (entry : ℕ) : Type 0 where
+  pub known : entry ≤ length (rows basis past)
+  pub board_is : board_of basis.facts (rows basis past) entry ≡ Some board
   pub written : 1 ≤ writes (strokes entry past)
-  pub digest : HasDigest mark (digest_of (rows facts opening past) entry)
+  pub digest : HasDigest mark (digest_of (rows basis past) entry)
 
-abbrev pub MarkKept : Facts → List Row → List Event → ℕ → Mark → Type 0
-MarkKept facts opening past board mark = IfSome (entry_named mark) (MarkOf facts opening past board mark)
+abbrev pub MarkKept : Basis → List Event → ℕ → Mark → Type 0
+MarkKept basis past board mark = IfSome (entry_named mark) (MarkOf basis past board mark)
 
 -- the marks of a step are so kept, where the step's entry is of that board
-pub prefix-kept : (facts : Facts) (opening : List Row) (past : List Event) (board : ℕ) (op : Op) (entry : ℕ) (told : List Mark) → IsPrefix told (marks op entry (digest_of (rows facts opening past) entry)) → entry ≤ length (rows facts opening past) → board_of facts (rows facts opening past) entry ≡ Some board → (is_write op ≡ true → 1 ≤ writes (strokes entry past)) → AllByRecursion (MarkKept facts opening past board) told
-prefix-kept facts opening past board Op.Prepare entry [] p k b w = tt
-prefix-kept facts opening past board Op.Prepare entry (m ∷ ms) p k b w = absurd p
-prefix-kept facts opening past board Op.Reload entry [] p k b w = tt
-prefix-kept facts opening past board Op.Reload entry (m ∷ ms) p k b w = absurd p
-prefix-kept facts opening past board Op.Cleanup entry [] p k b w = tt
-prefix-kept facts opening past board Op.Cleanup entry (m ∷ ms) p k b w = absurd p
-prefix-kept facts opening past board Op.Detach entry [] p k b w = tt
-prefix-kept facts opening past board Op.Detach entry (m ∷ []) p k b w = rw p.0 (tt, tt)
-prefix-kept facts opening past board Op.Detach entry (m ∷ m' ∷ ms) p k b w = absurd p.1
-prefix-kept facts opening past board Op.Attach entry [] p k b w = tt
-prefix-kept facts opening past board Op.Attach entry (m ∷ []) p k b w = rw p.0 (tt, tt)
-prefix-kept facts opening past board Op.Attach entry (m ∷ m' ∷ ms) p k b w = absurd p.1
-prefix-kept facts opening past board Op.Write entry [] p k b w = tt
-prefix-kept facts opening past board Op.Write entry (m ∷ []) p k b w =
+pub prefix-kept : (basis : Basis) (past : List Event) (board : ℕ) (op : Op) (entry : ℕ) (told : List Mark) → IsPrefix told (marks op entry (digest_of (rows basis past) entry)) → entry ≤ length (rows basis past) → board_of basis.facts (rows basis past) entry ≡ Some board → (is_write op ≡ true → 1 ≤ writes (strokes entry past)) → AllByRecursion (MarkKept basis past board) told
+prefix-kept basis past board Op.Prepare entry [] p k b w = tt
+prefix-kept basis past board Op.Prepare entry (m ∷ ms) p k b w = absurd p
+prefix-kept basis past board Op.Reload entry [] p k b w = tt
+prefix-kept basis past board Op.Reload entry (m ∷ ms) p k b w = absurd p
+prefix-kept basis past board Op.Cleanup entry [] p k b w = tt
+prefix-kept basis past board Op.Cleanup entry (m ∷ ms) p k b w = absurd p
+prefix-kept basis past board Op.Detach entry [] p k b w = tt
+prefix-kept basis past board Op.Detach entry (m ∷ []) p k b w = rw p.0 (tt, tt)
+prefix-kept basis past board Op.Detach entry (m ∷ m' ∷ ms) p k b w = absurd p.1
+prefix-kept basis past board Op.Attach entry [] p k b w = tt
+prefix-kept basis past board Op.Attach entry (m ∷ []) p k b w = rw p.0 (tt, tt)
+prefix-kept basis past board Op.Attach entry (m ∷ m' ∷ ms) p k b w = absurd p.1
+prefix-kept basis past board Op.Write entry [] p k b w = tt
+prefix-kept basis past board Op.Write entry (m ∷ []) p k b w =
     rw p.0 (record { known = k; board_is = b; written = w refl; digest = tt }, tt)
-prefix-kept facts opening past board Op.Write entry (m ∷ m' ∷ []) p k b w =
+prefix-kept basis past board Op.Write entry (m ∷ m' ∷ []) p k b w =
     rw (p.0, p.1.0) (record { known = k; board_is = b; written = w refl; digest = tt }, (record { known = k; board_is = b; written = w refl; digest = refl }, tt))
-prefix-kept facts opening past board Op.Write entry (m ∷ m' ∷ m'' ∷ ms) p k b w = absurd p.1.1
+prefix-kept basis past board Op.Write entry (m ∷ m' ∷ m'' ∷ ms) p k b w = absurd p.1.1
 
 -- what a past keeps of the marks that it tells
-pub record MarksKept (facts : Facts) (opening : List Row) (past : List Event) : Type 0 where
-  pub told_are : (board : ℕ) → AllByRecursion (MarkKept facts opening past board) (told facts opening past board)
-  pub few : (board entry : ℕ) (mark : Mark) → entry_named mark ≡ Some entry → how_many (is_like mark) (told facts opening past board) + open_writes entry past ≤ writes (strokes entry past)
-  pub after : (board entry : ℕ) (mark : Mark) → entry_named mark ≡ Some entry → AfterStart facts opening board entry mark past
+pub record MarksKept (basis : Basis) (past : List Event) : Type 0 where
+  pub told_are : (board : ℕ) → AllByRecursion (MarkKept basis past board) (told basis past board)
+  pub few : (board entry : ℕ) (mark : Mark) → entry_named mark ≡ Some entry → how_many (is_like mark) (told basis past board) + open_writes entry past ≤ writes (strokes entry past)
+  pub after : (board entry : ℕ) (mark : Mark) → entry_named mark ≡ Some entry → AfterStart basis board entry mark past
 
-pub marks-none : (facts : Facts) (opening : List Row) → MarksKept facts opening []
-marks-none facts opening = record { told_are = λ _. tt; few = λ _ _ _ _. omega arith; after = λ _ _ _ _. tt }
+pub marks-none : (basis : Basis) → MarksKept basis []
+marks-none basis = record { told_are = λ _. tt; few = λ _ _ _ _. omega arith; after = λ _ _ _ _. tt }
 
 -- a mark stays so as the log goes on
-pub mark-on : (facts : Facts) (opening : List Row) (past : List Event) (event : Event) (board : ℕ) (mark : Mark) → GoesOn (rows facts opening past) (rows facts opening (event ∷ past)) → ((e : ℕ) → writes (strokes e past) ≤ writes (strokes e (event ∷ past))) → MarkKept facts opening past board mark → MarkKept facts opening (event ∷ past) board mark
-mark-on facts opening past event board mark g w = at mark (entry_named mark)
+pub mark-on : (basis : Basis) (past : List Event) (event : Event) (board : ℕ) (mark : Mark) → GoesOn (rows basis past) (rows basis (event ∷ past)) → ((e : ℕ) → writes (strokes e past) ≤ writes (strokes e (event ∷ past))) → MarkKept basis past board mark → MarkKept basis (event ∷ past) board mark
+mark-on basis past event board mark g w = at mark (entry_named mark)
   where
     digests : (o o' : Option Row) → option_map fixed o' ≡ option_map fixed o → unwrap_or (option_map (λ r. r.digest) o') [] ≡ unwrap_or (option_map (λ r. r.digest) o) []
     digests None None h = refl
@@ -153,45 +153,45 @@ mark-on facts opening past event board mark g w = at mark (entry_named mark)
     digests None (Some r') h = cc
     digests (Some r) None h = cc
 
-    at : (mark : Mark) (o : Option ℕ) → IfSome o (MarkOf facts opening past board mark) → IfSome o (MarkOf facts opening (event ∷ past) board mark)
+    at : (mark : Mark) (o : Option ℕ) → IfSome o (MarkOf basis past board mark) → IfSome o (MarkOf basis (event ∷ past) board mark)
     at mark None k = tt
     at mark (Some e) k =
-        let f : fixed_row (rows facts opening (event ∷ past)) e ≡ fixed_row (rows facts opening past) e = goes_on-fixed (rows facts opening past) (rows facts opening (event ∷ past)) e g k.known in
-        let d : digest_of (rows facts opening (event ∷ past)) e ≡ digest_of (rows facts opening past) e = digests (row_of (rows facts opening past) e) (row_of (rows facts opening (event ∷ past)) e) f in
-        let grows = goes_on-grows (rows facts opening past) (rows facts opening (event ∷ past)) g in
+        let f : fixed_row (rows basis (event ∷ past)) e ≡ fixed_row (rows basis past) e = goes_on-fixed (rows basis past) (rows basis (event ∷ past)) e g k.known in
+        let d : digest_of (rows basis (event ∷ past)) e ≡ digest_of (rows basis past) e = digests (row_of (rows basis past) e) (row_of (rows basis (event ∷ past)) e) f in
+        let grows = goes_on-grows (rows basis past) (rows basis (event ∷ past)) g in
         record {
           known = omega (arith, grows, k.known);
-          board_is = board-fixed facts (rows facts opening past) (rows facts opening (event ∷ past)) e f ∙ k.board_is;
+          board_is = board-fixed basis.facts (rows basis past) (rows basis (event ∷ past)) e f ∙ k.board_is;
           written = omega (arith, w e, k.written);
           digest = subst (HasDigest mark) (sym d) k.digest;
         }
 
 -- what is kept at any event
-pub marks-step : (facts : Facts) (opening : List Row) (past : List Event) (event : Event) → MarksKept facts opening past → GoesOn (rows facts opening past) (rows facts opening (event ∷ past)) → ((e : ℕ) → writes (strokes e past) ≤ writes (strokes e (event ∷ past))) → ((board : ℕ) → AllByRecursion (MarkKept facts opening past board) (told_by facts (rows facts opening past) event board)) → ((board entry : ℕ) (mark : Mark) → entry_named mark ≡ Some entry → how_many (is_like mark) (told_by facts (rows facts opening past) event board) + open_writes entry (event ∷ past) + writes (strokes entry past) ≤ open_writes entry past + writes (strokes entry (event ∷ past))) → ((board entry : ℕ) (mark : Mark) → entry_named mark ≡ Some entry → OnTrue (list_any (is_like mark) (told_by facts (rows facts opening past) event board)) (IsTrue (list_any (starts_write entry) past))) → MarksKept facts opening (event ∷ past)
-marks-step facts opening past event k g w t c a =
+pub marks-step : (basis : Basis) (past : List Event) (event : Event) → MarksKept basis past → GoesOn (rows basis past) (rows basis (event ∷ past)) → ((e : ℕ) → writes (strokes e past) ≤ writes (strokes e (event ∷ past))) → ((board : ℕ) → AllByRecursion (MarkKept basis past board) (told_by basis.facts (rows basis past) event board)) → ((board entry : ℕ) (mark : Mark) → entry_named mark ≡ Some entry → how_many (is_like mark) (told_by basis.facts (rows basis past) event board) + open_writes entry (event ∷ past) + writes (strokes entry past) ≤ open_writes entry past + writes (strokes entry (event ∷ past))) → ((board entry : ℕ) (mark : Mark) → entry_named mark ≡ Some entry → OnTrue (list_any (is_like mark) (told_by basis.facts (rows basis past) event board)) (IsTrue (list_any (starts_write entry) past))) → MarksKept basis (event ∷ past)
+marks-step basis past event k g w t c a =
     record {
-      told_are = λ board. All-append (MarkKept facts opening (event ∷ past) board) (told facts opening past board) _
-          (All-map _ _ (told facts opening past board) (k.told_are board) (λ m h. mark-on facts opening past event board m g w h))
-          (All-map _ _ (told_by facts (rows facts opening past) event board) (t board) (λ m h. mark-on facts opening past event board m g w h));
+      told_are = λ board. All-append (MarkKept basis (event ∷ past) board) (told basis past board) _
+          (All-map _ _ (told basis past board) (k.told_are board) (λ m h. mark-on basis past event board m g w h))
+          (All-map _ _ (told_by basis.facts (rows basis past) event board) (t board) (λ m h. mark-on basis past event board m g w h));
       few = λ board entry mark n.
-          let ap = how_many-append (is_like mark) (told facts opening past board) (told_by facts (rows facts opening past) event board) in
+          let ap = how_many-append (is_like mark) (told basis past board) (told_by basis.facts (rows basis past) event board) in
           omega (arith, ap, k.few board entry mark n, c board entry mark n);
       after = λ board entry mark n. (a board entry mark n, k.after board entry mark n);
     }
 
 -- an event that tells no mark, and starts and ends no step
-pub marks-quiet : (facts : Facts) (opening : List Row) (past : List Event) (event : Event) → MarksKept facts opening past → GoesOn (rows facts opening past) (rows facts opening (event ∷ past)) → ((e : ℕ) → strokes e (event ∷ past) ≡ strokes e past) → ((board : ℕ) → told_by facts (rows facts opening past) event board ≡ []) → open_steps (event ∷ past) ≡ open_steps past → MarksKept facts opening (event ∷ past)
-marks-quiet facts opening past event k g s t o =
-    marks-step facts opening past event k g (λ e. omega (arith, ap writes (s e))) (λ board. rw (t board) tt)
+pub marks-quiet : (basis : Basis) (past : List Event) (event : Event) → MarksKept basis past → GoesOn (rows basis past) (rows basis (event ∷ past)) → ((e : ℕ) → strokes e (event ∷ past) ≡ strokes e past) → ((board : ℕ) → told_by basis.facts (rows basis past) event board ≡ []) → open_steps (event ∷ past) ≡ open_steps past → MarksKept basis (event ∷ past)
+marks-quiet basis past event k g s t o =
+    marks-step basis past event k g (λ e. omega (arith, ap writes (s e))) (λ board. rw (t board) tt)
     (λ board entry mark n. rw (t board, o, s entry) (omega arith))
     (λ board entry mark n. rw (t board) tt)
 
 pub how_many-push : {X : Type 0} (p : X → Bool) (xs : List X) (x : X) → how_many p (xs ++ x ∷ []) ≡ how_many p xs + how_many p (x ∷ [])
 how_many-push p xs x = how_many-append p xs (x ∷ [])
 
-pub marks-start : (facts : Facts) (opening : List Row) (past : List Event) (client entry : ℕ) (op : Op) → MarksKept facts opening past → MarksKept facts opening (Event.Start client entry op ∷ past)
-marks-start facts opening past client entry op k =
-    marks-step facts opening past (Event.Start client entry op) k (inl refl)
+pub marks-start : (basis : Basis) (past : List Event) (client entry : ℕ) (op : Op) → MarksKept basis past → MarksKept basis (Event.Start client entry op ∷ past)
+marks-start basis past client entry op k =
+    marks-step basis past (Event.Start client entry op) k (inl refl)
     (λ e. by_test (entry == e) _ (λ t. rw t (omega arith)) (λ f. rw f (omega arith)))
     (λ board. tt)
     (λ board e mark n. count e)
@@ -271,16 +271,16 @@ few-after told mark entry e op past h w =
         (λ u. let h' : how_many (is_like mark) told ≤ 0 = rw (t, u) at h in absurd (omega arith)))
         (λ t. let h' : how_many (is_like mark) told ≤ 0 = rw t at h in absurd (omega arith))
 
-pub marks-end : (c : Campaign) (opening : List Row) (past : List Event) (client entry : ℕ) (op : Op) (outcome : Result (Unit {0}) BoardFault) (told : List Mark) (seen : Seen) → StepsKept c.facts opening past → TakenKept c.facts opening past → MarksKept c.facts opening past → EndAllowed c.facts c.first opening past client entry op outcome told seen → MarksKept c.facts opening (Event.End client entry op outcome told seen ∷ past)
-marks-end c opening past client entry op outcome told seen s t k a =
-    marks-step c.facts opening past (Event.End client entry op outcome told seen) k (inl refl)
+pub marks-end : (c : Campaign) (past : List Event) (client entry : ℕ) (op : Op) (outcome : Result (Unit {0}) BoardFault) (told : List Mark) (seen : Seen) → StepsKept c.basis past → TakenKept c.basis past → MarksKept c.basis past → EndAllowed c.basis c.first past client entry op outcome told seen → MarksKept c.basis (Event.End client entry op outcome told seen ∷ past)
+marks-end c past client entry op outcome told seen s t k a =
+    marks-step c.basis past (Event.End client entry op outcome told seen) k (inl refl)
     (λ e. by_test (entry == e) _ (λ u. rw u (omega arith)) (λ f. rw f (omega arith)))
-    (λ board. by_test (is_board_of c.facts (rows c.facts opening past) entry board) _
-    (λ u. rw u (prefix-kept c.facts opening past board op entry told a.told_is known (board-of-is c.facts (rows c.facts opening past) entry board u) write))
+    (λ board. by_test (is_board_of c.basis.facts (rows c.basis past) entry board) _
+    (λ u. rw u (prefix-kept c.basis past board op entry told a.told_is known (board-of-is c.basis.facts (rows c.basis past) entry board u) write))
     (λ f. rw f tt))
     (λ board e mark n. count board e mark n)
-    (λ board e mark n. by_test (is_board_of c.facts (rows c.facts opening past) entry board) _
-    (λ u. rw u (few-after told mark entry e op past (prefix-few op entry (digest_of (rows c.facts opening past) entry) told mark e a.told_is n) write))
+    (λ board e mark n. by_test (is_board_of c.basis.facts (rows c.basis past) entry board) _
+    (λ u. rw u (few-after told mark entry e op past (prefix-few op entry (digest_of (rows c.basis past) entry) told mark e a.told_is n) write))
     (λ f. rw f tt))
   where
     st : (rest : List Stroke) × (strokes entry past ≡ Stroke.Started op ∷ rest)
@@ -289,19 +289,19 @@ marks-end c opening past client entry op outcome told seen s t k a =
     write : is_write op ≡ true → 1 ≤ writes (strokes entry past)
     write w = writes-one (strokes entry past) op st.0 st.1 w
 
-    known : entry ≤ length (rows c.facts opening past)
+    known : entry ≤ length (rows c.basis past)
     known = at (t.begun entry)
       where
-        at : (strokes entry past ≡ []) ⊎ Taken c.facts opening past entry → entry ≤ length (rows c.facts opening past)
+        at : (strokes entry past ≡ []) ⊎ Taken c.basis past entry → entry ≤ length (rows c.basis past)
         at (inl e) = absurd (not-fresh (strokes entry past) op st.0 st.1 e)
         at (inr w) = w.known
 
-    count : (board e : ℕ) (mark : Mark) → entry_named mark ≡ Some e → how_many (is_like mark) (told_by c.facts (rows c.facts opening past) (Event.End client entry op outcome told seen) board) + open_writes e (Event.End client entry op outcome told seen ∷ past) + writes (strokes e past) ≤ open_writes e past + writes (strokes e (Event.End client entry op outcome told seen ∷ past))
+    count : (board e : ℕ) (mark : Mark) → entry_named mark ≡ Some e → how_many (is_like mark) (told_by c.basis.facts (rows c.basis past) (Event.End client entry op outcome told seen) board) + open_writes e (Event.End client entry op outcome told seen ∷ past) + writes (strokes e past) ≤ open_writes e past + writes (strokes e (Event.End client entry op outcome told seen ∷ past))
     count board e mark n =
-        let few : how_many (is_like mark) told ≤ one_where ((entry == e) && is_write op) = prefix-few op entry (digest_of (rows c.facts opening past) entry) told mark e a.told_is n in
+        let few : how_many (is_like mark) told ≤ one_where ((entry == e) && is_write op) = prefix-few op entry (digest_of (rows c.basis past) entry) told mark e a.told_is n in
         let gone : how_many (is_write_of e) (filter (λ x. not (x.entry == entry)) (open_steps past)) + one_where ((entry == e) && is_write op) ≤ how_many (is_write_of e) (open_steps past) = filter-many (λ x. x.entry == entry) (is_write_of e) (open_steps past) (record { client = client; entry = entry; op = op }) (one_where ((entry == e) && is_write op)) a.open_is (one-of ((entry == e) && is_write op)) in
         let same : writes (strokes e (Event.End client entry op outcome told seen ∷ past)) ≡ writes (strokes e past) = by_test (entry == e) _ (λ u. rw u refl) (λ f. rw f refl) in
-        by_test (is_board_of c.facts (rows c.facts opening past) entry board) _
+        by_test (is_board_of c.basis.facts (rows c.basis past) entry board) _
         (λ u. rw (u, same) (omega arith))
         (λ f. rw (f, same) (omega arith))
 
@@ -310,64 +310,64 @@ prefix-of_none [] p = refl
 prefix-of_none (x ∷ xs) p = absurd p
 
 -- what is kept of marks that begin those of an open step
-pub record OpenMarks (facts : Facts) (opening : List Row) (past : List Event) (board : ℕ) (ms : List Mark) : Type 0 where
-  pub kept : AllByRecursion (MarkKept facts opening past board) ms
+pub record OpenMarks (basis : Basis) (past : List Event) (board : ℕ) (ms : List Mark) : Type 0 where
+  pub kept : AllByRecursion (MarkKept basis past board) ms
   pub few : (mark : Mark) (e : ℕ) → entry_named mark ≡ Some e → how_many (is_like mark) ms ≤ open_writes e past
   pub after : (mark : Mark) (e : ℕ) → entry_named mark ≡ Some e → OnTrue (list_any (is_like mark) ms) (IsTrue (list_any (starts_write e) past))
 
-pub open-marks_none : (facts : Facts) (opening : List Row) (past : List Event) (board : ℕ) → OpenMarks facts opening past board []
-open-marks_none facts opening past board = record { kept = tt; few = λ _ _ _. omega arith; after = λ _ _ _. tt }
+pub open-marks_none : (basis : Basis) (past : List Event) (board : ℕ) → OpenMarks basis past board []
+open-marks_none basis past board = record { kept = tt; few = λ _ _ _. omega arith; after = λ _ _ _. tt }
 
-pub open-marks_some : (facts : Facts) (opening : List Row) (past : List Event) (board : ℕ) (ms : List Mark) (x : OpenStep) → StepsKept facts opening past → TakenKept facts opening past → open_on facts opening past board ≡ Some x → IsPrefix ms (marks x.op x.entry (digest_of (rows facts opening past) x.entry)) → OpenMarks facts opening past board ms
-open-marks_some facts opening past board ms x s t e p =
+pub open-marks_some : (basis : Basis) (past : List Event) (board : ℕ) (ms : List Mark) (x : OpenStep) → StepsKept basis past → TakenKept basis past → open_on basis past board ≡ Some x → IsPrefix ms (marks x.op x.entry (digest_of (rows basis past) x.entry)) → OpenMarks basis past board ms
+open-marks_some basis past board ms x s t e p =
     record {
-      kept = prefix-kept facts opening past board x.op x.entry ms p known (board-of-is facts (rows facts opening past) x.entry board (find-passes (λ y. is_board_of facts (rows facts opening past) y.entry board) (open_steps past) x e)) write;
+      kept = prefix-kept basis past board x.op x.entry ms p known (board-of-is basis.facts (rows basis past) x.entry board (find-passes (λ y. is_board_of basis.facts (rows basis past) y.entry board) (open_steps past) x e)) write;
       few = λ mark entry n. few mark entry n;
-      after = λ mark entry n. few-after ms mark x.entry entry x.op past (prefix-few x.op x.entry (digest_of (rows facts opening past) x.entry) ms mark entry p n) write;
+      after = λ mark entry n. few-after ms mark x.entry entry x.op past (prefix-few x.op x.entry (digest_of (rows basis past) x.entry) ms mark entry p n) write;
     }
   where
     w : OpenKept past x
-    w = All-find (OpenKept past) (λ y. is_board_of facts (rows facts opening past) y.entry board) (open_steps past) x s.open_are e
+    w = All-find (OpenKept past) (λ y. is_board_of basis.facts (rows basis past) y.entry board) (open_steps past) x s.open_are e
 
     write : is_write x.op ≡ true → 1 ≤ writes (strokes x.entry past)
     write u = writes-one (strokes x.entry past) x.op w.rest w.started u
 
-    at : (strokes x.entry past ≡ []) ⊎ Taken facts opening past x.entry → x.entry ≤ length (rows facts opening past)
+    at : (strokes x.entry past ≡ []) ⊎ Taken basis past x.entry → x.entry ≤ length (rows basis past)
     at (inl n) = absurd (not-fresh (strokes x.entry past) x.op w.rest w.started n)
     at (inr k) = k.known
 
-    known : x.entry ≤ length (rows facts opening past)
+    known : x.entry ≤ length (rows basis past)
     known = at (t.begun x.entry)
 
     few : (mark : Mark) (entry : ℕ) → entry_named mark ≡ Some entry → how_many (is_like mark) ms ≤ open_writes entry past
     few mark entry n =
-        let one : how_many (is_like mark) ms ≤ one_where ((x.entry == entry) && is_write x.op) = prefix-few x.op x.entry (digest_of (rows facts opening past) x.entry) ms mark entry p n in
+        let one : how_many (is_like mark) ms ≤ one_where ((x.entry == entry) && is_write x.op) = prefix-few x.op x.entry (digest_of (rows basis past) x.entry) ms mark entry p n in
         by_test ((x.entry == entry) && is_write x.op) _
-        (λ u. let m : 1 ≤ open_writes entry past = find-many (λ y. is_board_of facts (rows facts opening past) y.entry board) (is_write_of entry) (open_steps past) x e u in
+        (λ u. let m : 1 ≤ open_writes entry past = find-many (λ y. is_board_of basis.facts (rows basis past) y.entry board) (is_write_of entry) (open_steps past) x e u in
         let o : how_many (is_like mark) ms ≤ 1 = rw u at one in omega arith)
         (λ u. let o : how_many (is_like mark) ms ≤ 0 = rw u at one in omega arith)
 
-pub open-marks : (facts : Facts) (opening : List Row) (past : List Event) (board : ℕ) (ms : List Mark) → StepsKept facts opening past → TakenKept facts opening past → IsPrefix ms (open_marks facts opening past board) → OpenMarks facts opening past board ms
-open-marks facts opening past board ms s t p = at (open_on facts opening past board) refl p
+pub open-marks : (basis : Basis) (past : List Event) (board : ℕ) (ms : List Mark) → StepsKept basis past → TakenKept basis past → IsPrefix ms (open_marks basis past board) → OpenMarks basis past board ms
+open-marks basis past board ms s t p = at (open_on basis past board) refl p
   where
-    at : (o : Option OpenStep) → open_on facts opening past board ≡ o → IsPrefix ms (unwrap_or (option_map (λ s. marks s.op s.entry (digest_of (rows facts opening past) s.entry)) o) []) → OpenMarks facts opening past board ms
-    at None e p = rw (prefix-of_none ms p) (open-marks_none facts opening past board)
-    at (Some x) e p = open-marks_some facts opening past board ms x s t e p
+    at : (o : Option OpenStep) → open_on basis past board ≡ o → IsPrefix ms (unwrap_or (option_map (λ s. marks s.op s.entry (digest_of (rows basis past) s.entry)) o) []) → OpenMarks basis past board ms
+    at None e p = rw (prefix-of_none ms p) (open-marks_none basis past board)
+    at (Some x) e p = open-marks_some basis past board ms x s t e p
 
 -- what a boot tells of a board
-pub boot-told : (c : Campaign) (opening : List Row) (past : List Event) (plan : BootPlan) (boards : List BoardSeen) (board : ℕ) → StepsKept c.facts opening past → TakenKept c.facts opening past → ((n : ℕ) (b : BoardSeen) → slice_get boards n ≡ Some b → BoardListed c.facts c.first opening past plan n b) → OpenMarks c.facts opening past board (untold_of boards board)
-boot-told c opening past plan boards board s t h = at (slice_get boards board) refl
+pub boot-told : (c : Campaign) (past : List Event) (plan : BootPlan) (boards : List BoardSeen) (board : ℕ) → StepsKept c.basis past → TakenKept c.basis past → ((n : ℕ) (b : BoardSeen) → slice_get boards n ≡ Some b → BoardListed c.basis c.first past plan n b) → OpenMarks c.basis past board (untold_of boards board)
+boot-told c past plan boards board s t h = at (slice_get boards board) refl
   where
-    at : (o : Option BoardSeen) → slice_get boards board ≡ o → OpenMarks c.facts opening past board (unwrap_or (option_map (λ b. b.untold) o) [])
-    at None e = open-marks_none c.facts opening past board
-    at (Some b) e = let l = h board b e in open-marks c.facts opening past board b.untold s t l.untold
+    at : (o : Option BoardSeen) → slice_get boards board ≡ o → OpenMarks c.basis past board (unwrap_or (option_map (λ b. b.untold) o) [])
+    at None e = open-marks_none c.basis past board
+    at (Some b) e = let l = h board b e in open-marks c.basis past board b.untold s t l.untold
 
-pub marks-boot : (c : Campaign) (opening : List Row) (past : List Event) (number time : ℕ) (limit : Option ℕ) (found : Found) (boards : List BoardSeen) (plan : BootPlan) → StepsKept c.facts opening past → TakenKept c.facts opening past → MarksKept c.facts opening past → GoesOn (rows c.facts opening past) (rows c.facts opening (Event.Boot number time limit found boards ∷ past)) → BootAllowed c opening past number time limit found boards plan → MarksKept c.facts opening (Event.Boot number time limit found boards ∷ past)
-marks-boot c opening past number time limit found boards plan s t k g a =
-    marks-step c.facts opening past (Event.Boot number time limit found boards) k g (λ e. omega arith)
+pub marks-boot : (c : Campaign) (past : List Event) (number time : ℕ) (limit : Option ℕ) (found : Found) (boards : List BoardSeen) (plan : BootPlan) → StepsKept c.basis past → TakenKept c.basis past → MarksKept c.basis past → GoesOn (rows c.basis past) (rows c.basis (Event.Boot number time limit found boards ∷ past)) → BootAllowed c past number time limit found boards plan → MarksKept c.basis (Event.Boot number time limit found boards ∷ past)
+marks-boot c past number time limit found boards plan s t k g a =
+    marks-step c.basis past (Event.Boot number time limit found boards) k g (λ e. omega arith)
     (λ board. (told board).kept)
     (λ board entry mark n. let f = (told board).few mark entry n in omega arith)
     (λ board entry mark n. (told board).after mark entry n)
   where
-    told : (board : ℕ) → OpenMarks c.facts opening past board (untold_of boards board)
-    told board = boot-told c opening past plan boards board s t a.listed
+    told : (board : ℕ) → OpenMarks c.basis past board (untold_of boards board)
+    told board = boot-told c past plan boards board s t a.listed

@@ -4,9 +4,9 @@ use Rattle.std.specs.Prelude.{AllPairs, EachIndex, slice_index, slice_index_or}
 use Rattle.std.specs.List.{AllByRecursion, IsDistinct}
 use Rattle.std.specs.Str.{bytes_eq}
 use Rattle.std.specs.Cmp.Lexicographic.{bytes_decides}
+use Rattle.history_keeper.specs.Histories.{IsHistory}
 use Rattle.history_keeper.specs.declared.row.Row.{Row}
 use Rattle.update_log.proofs.Lists.{by_test}
-use Rattle.update_log.specs.Known.{rows}
 
 -- The entries count from a number.
 abbrev pub EntriesFrom : ℕ → List Row → Type 0
@@ -60,3 +60,13 @@ differ-at (r ∷ rows) (suc i) (suc j) d h l m = differ-at rows i j d h.1 (omega
 
 pub tags-differ : (rows : List Row) → IsDistinct bytes_eq (map (λ r. r.tag) rows) → AllPairs (λ a b. a.tag ≢ b.tag) rows
 tags-differ rows h = λ i j d l m. differ-at rows i j d h l m
+
+pub no-history : IsHistory []
+no-history =
+    record {
+      entries = λ k lt. absurd (omega arith);
+      tags = λ i j d l m. absurd (omega arith);
+      unsettled = λ i j d l m. absurd (omega arith);
+      linked = λ at row there. cc;
+      retried = λ i j d l m. absurd (omega arith);
+    }

@@ -6,7 +6,7 @@ use Rattle.history_keeper.specs.Changes.{changed, with_state}
 use Rattle.history_keeper.specs.declared.change.Change.{Change}
 use Rattle.history_keeper.specs.declared.row.Row.{Row}
 use Rattle.release_catalogue.specs.declared.reference.ReleaseRef.{ReleaseRef}
-use Rattle.update_log.specs.Known.{Fate, Target, doubt, rows, rows_by, rows_found}
+use Rattle.update_log.specs.Known.{Fate, Target, rows_by, rows_found}
 use Rattle.update_log.specs.Legal.{ClaimAnswered, is_fetched}
 use Rattle.update_log.specs.declared.answer.ClaimAnswer.{ClaimAnswer}
 use Rattle.update_log.specs.declared.decision.Decision.{Decision}

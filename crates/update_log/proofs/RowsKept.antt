@@ -17,10 +17,10 @@ use Rattle.history_keeper.specs.declared.row.RowState.{RowState}
 use Rattle.update_log.proofs.Lists.{by_test, eqb-other, find-push_other}
 use Rattle.update_log.proofs.Openings.{EntriesFrom}
 use Rattle.update_log.specs.Boards.{board_with}
-use Rattle.update_log.specs.Holding.{held, live}
-use Rattle.update_log.specs.Known.{Fate, Known, Target, addition, advance, board_of, doubt, doubt_by, doubt_found, fate, fate_answered, fate_stored, known, new_row, resumption, row_of, row_with_tag, rows, rows_by, rows_found, seen, target, views, views_in}
+use Rattle.update_log.specs.Holding.{live}
+use Rattle.update_log.specs.Known.{Basis, Fate, Known, Target, addition, advance, board_of, doubt, doubt_by, doubt_found, fate_answered, fate_stored, known, new_row, resumption, row_of, row_with_tag, rows, rows_by, rows_found, target, views, views_in}
 use Rattle.update_log.specs.Legal.{Allowed, BootRuns, BootTakes, ClaimAllowed, ClaimAnswered, FoundAllowed, ScheduleAllowed, ScheduleAnswered, closing_stored, next_entry}
-use Rattle.update_log.specs.Once.{is_pending, takes}
+use Rattle.update_log.specs.Once.{is_pending}
 use Rattle.update_log.specs.Pasts.{is_fault, is_found_fault, is_keeper_fault, off, time_of}
 use Rattle.update_log.specs.Shows.{Campaign}
 use Rattle.update_log.specs.Steps.{closing, closing_at, closing_of, ended_well, judge, judge_shown, trace, view_of_row, waits_for_boot}
@@ -175,24 +175,24 @@ addition-next facts time entries k client request state h = at (target facts (vi
     at (Some t) = (refl, no-tag k.rows request.tag h)
 
 -- what a past keeps of the rows
-pub record RowsKept (facts : Facts) (opening : List Row) (past : List Event) : Type 0 where
-  pub valid : AreValid (rows facts opening past)
-  pub doubt_next : IfSome (doubt facts opening past) (λ c. NextChange c (rows facts opening past))
-  pub doubt_off : off past ≡ false → doubt facts opening past ≡ None
+pub record RowsKept (basis : Basis) (past : List Event) : Type 0 where
+  pub valid : AreValid (rows basis past)
+  pub doubt_next : IfSome (doubt basis past) (λ c. NextChange c (rows basis past))
+  pub doubt_off : off past ≡ false → doubt basis past ≡ None
 
 -- and how the rows go on
-pub record RowsStep (facts : Facts) (opening : List Row) (past : List Event) (event : Event) : Type 0 where
-  pub kept : RowsKept facts opening (event ∷ past)
-  pub goes_on : GoesOn (rows facts opening past) (rows facts opening (event ∷ past))
+pub record RowsStep (basis : Basis) (past : List Event) (event : Event) : Type 0 where
+  pub kept : RowsKept basis (event ∷ past)
+  pub goes_on : GoesOn (rows basis past) (rows basis (event ∷ past))
 
-pub rows-boot : (c : Campaign) (opening : List Row) (past : List Event) (number time : ℕ) (limit : Option ℕ) (found : Found) (boards : List BoardSeen) → RowsKept c.facts opening past → FoundAllowed found (doubt c.facts opening past) → RowsStep c.facts opening past (Event.Boot number time limit found boards)
-rows-boot c opening past number time limit found boards k a =
-    let g = found-goes_on found (doubt c.facts opening past) (rows c.facts opening past) k.doubt_next in
+pub rows-boot : (c : Campaign) (past : List Event) (number time : ℕ) (limit : Option ℕ) (found : Found) (boards : List BoardSeen) → RowsKept c.basis past → FoundAllowed found (doubt c.basis past) → RowsStep c.basis past (Event.Boot number time limit found boards)
+rows-boot c past number time limit found boards k a =
+    let g = found-goes_on found (doubt c.basis past) (rows c.basis past) k.doubt_next in
     record {
       kept = record {
-        valid = goes_on-valid (rows c.facts opening past) _ g k.valid;
-        doubt_next = next found (doubt c.facts opening past) (rows c.facts opening past) k.doubt_next a;
-        doubt_off = none found (doubt c.facts opening past) a;
+        valid = goes_on-valid (rows c.basis past) _ g k.valid;
+        doubt_next = next found (doubt c.basis past) (rows c.basis past) k.doubt_next a;
+        doubt_off = none found (doubt c.basis past) a;
       };
       goes_on = g;
     }
@@ -209,8 +209,8 @@ rows-boot c opening past number time limit found boards k a =
     none _ _ a o = refl
 
 -- an event by which no change is made or doubted
-pub rows-same : (facts : Facts) (opening : List Row) (past : List Event) (event : Event) → RowsKept facts opening past → rows facts opening (event ∷ past) ≡ rows facts opening past → doubt facts opening (event ∷ past) ≡ doubt facts opening past → (off (event ∷ past) ≡ false → off past ≡ false) → RowsStep facts opening past event
-rows-same facts opening past event k r d o =
+pub rows-same : (basis : Basis) (past : List Event) (event : Event) → RowsKept basis past → rows basis (event ∷ past) ≡ rows basis past → doubt basis (event ∷ past) ≡ doubt basis past → (off (event ∷ past) ≡ false → off past ≡ false) → RowsStep basis past event
+rows-same basis past event k r d o =
     record {
       kept = record { valid = rw r k.valid; doubt_next = rw (d, r) k.doubt_next; doubt_off = λ h. d ∙ k.doubt_off (o h) };
       goes_on = inl r;
@@ -222,13 +222,13 @@ is_doubtful Fate.Doubtful = true
 is_doubtful _ = false
 
 -- an event that asks for a change
-pub rows-asked : (facts : Facts) (opening : List Row) (past : List Event) (event : Event) (fate : Fate) (change : Option Change) → RowsKept facts opening past → doubt facts opening past ≡ None → IfSome change (λ c. NextChange c (rows facts opening past)) → rows facts opening (event ∷ past) ≡ rows_by fate change (rows facts opening past) → doubt facts opening (event ∷ past) ≡ doubt_by fate change (doubt facts opening past) → (off (event ∷ past) ≡ false → is_doubtful fate ≡ false) → RowsStep facts opening past event
-rows-asked facts opening past event fate change k none n r d o =
-    let g : GoesOn (rows facts opening past) (rows_by fate change (rows facts opening past)) = rows_by-goes_on fate change (rows facts opening past) n in
+pub rows-asked : (basis : Basis) (past : List Event) (event : Event) (fate : Fate) (change : Option Change) → RowsKept basis past → doubt basis past ≡ None → IfSome change (λ c. NextChange c (rows basis past)) → rows basis (event ∷ past) ≡ rows_by fate change (rows basis past) → doubt basis (event ∷ past) ≡ doubt_by fate change (doubt basis past) → (off (event ∷ past) ≡ false → is_doubtful fate ≡ false) → RowsStep basis past event
+rows-asked basis past event fate change k none n r d o =
+    let g : GoesOn (rows basis past) (rows_by fate change (rows basis past)) = rows_by-goes_on fate change (rows basis past) n in
     record {
       kept = record {
-        valid = rw r (goes_on-valid (rows facts opening past) _ g k.valid);
-        doubt_next = rw (d, r, none) (next fate change (rows facts opening past) n);
+        valid = rw r (goes_on-valid (rows basis past) _ g k.valid);
+        doubt_next = rw (d, r, none) (next fate change (rows basis past) n);
         doubt_off = λ h. rw (d, none) (clear fate change (o h));
       };
       goes_on = rw r g;
@@ -248,27 +248,27 @@ pub fault-clear : (stored : Stored) → is_fault stored ≡ false → is_doubtfu
 fault-clear Stored.Fault h = cc
 fault-clear _ h = refl
 
-pub rows-finish : (facts : Facts) (opening : List Row) (past : List Event) (client entry : ℕ) (state : RowState) (stored : Stored) → RowsKept facts opening past → off past ≡ false → is_pending state ≡ false → RowsStep facts opening past (Event.Finish client entry state stored)
-rows-finish facts opening past client entry state stored k o p =
-    rows-asked facts opening past (Event.Finish client entry state stored) (fate_stored stored) (advance (time_of past) (known facts opening past) entry state) k (k.doubt_off o) p refl refl
+pub rows-finish : (basis : Basis) (past : List Event) (client entry : ℕ) (state : RowState) (stored : Stored) → RowsKept basis past → off past ≡ false → is_pending state ≡ false → RowsStep basis past (Event.Finish client entry state stored)
+rows-finish basis past client entry state stored k o p =
+    rows-asked basis past (Event.Finish client entry state stored) (fate_stored stored) (advance (time_of past) (known basis past) entry state) k (k.doubt_off o) p refl refl
     (λ h. fault-clear stored (or_parts (is_fault stored) (off past) h).0)
 
 -- a claim whose tag isn't kept asks for a change that the rows can take
-pub claim-asks : (facts : Facts) (opening : List Row) (past : List Event) (client : ℕ) (request : Request) (fetched : FetchNote) (answer : ClaimAnswer) (held : Held) → ClaimAllowed facts opening past client request fetched answer held → is_kept_answer answer ≡ false → IfSome (addition facts (time_of past) (live past) (known facts opening past) client request RowState.Begun) (λ c. NextChange c (rows facts opening past))
-claim-asks facts opening past client request fetched answer held a h =
-    let d = claim-not_kept fetched (target facts (views facts opening past) request) (next_entry facts opening past) (verdict facts opening past client request (Stage.Claim held.release)) answer a.answer_is h in
-    addition-next facts (time_of past) (live past) (known facts opening past) client request RowState.Begun
-    (not_kept (case_of facts opening past client request (Stage.Claim held.release)) d)
+pub claim-asks : (basis : Basis) (past : List Event) (client : ℕ) (request : Request) (fetched : FetchNote) (answer : ClaimAnswer) (held : Held) → ClaimAllowed basis past client request fetched answer held → is_kept_answer answer ≡ false → IfSome (addition basis.facts (time_of past) (live past) (known basis past) client request RowState.Begun) (λ c. NextChange c (rows basis past))
+claim-asks basis past client request fetched answer held a h =
+    let d = claim-not_kept fetched (target basis.facts (views basis past) request) (next_entry basis past) (verdict basis past client request (Stage.Claim held.release)) answer a.answer_is h in
+    addition-next basis.facts (time_of past) (live past) (known basis past) client request RowState.Begun
+    (not_kept (case_of basis past client request (Stage.Claim held.release)) d)
 
-pub rows-claim : (facts : Facts) (opening : List Row) (past : List Event) (client : ℕ) (request : Request) (fetched : FetchNote) (answer : ClaimAnswer) (held : Held) → RowsKept facts opening past → off past ≡ false → ClaimAllowed facts opening past client request fetched answer held → RowsStep facts opening past (Event.Claim client request fetched answer)
-rows-claim facts opening past client request fetched (ClaimAnswer.Kept entry state) held k o a =
-    rows-same facts opening past (Event.Claim client request fetched (ClaimAnswer.Kept entry state)) k refl refl (λ h. h)
-rows-claim facts opening past client request fetched (ClaimAnswer.Entry entry) held k o a =
-    rows-asked facts opening past (Event.Claim client request fetched (ClaimAnswer.Entry entry)) Fate.Made _ k (k.doubt_off o)
-    (claim-asks facts opening past client request fetched (ClaimAnswer.Entry entry) held a refl) refl refl (λ h. refl)
-rows-claim facts opening past client request fetched (ClaimAnswer.Refused refusal) held k o a =
-    rows-asked facts opening past (Event.Claim client request fetched (ClaimAnswer.Refused refusal)) (fate_answered (ClaimAnswer.Refused refusal)) _ k (k.doubt_off o)
-    (claim-asks facts opening past client request fetched (ClaimAnswer.Refused refusal) held a refl) refl refl
+pub rows-claim : (basis : Basis) (past : List Event) (client : ℕ) (request : Request) (fetched : FetchNote) (answer : ClaimAnswer) (held : Held) → RowsKept basis past → off past ≡ false → ClaimAllowed basis past client request fetched answer held → RowsStep basis past (Event.Claim client request fetched answer)
+rows-claim basis past client request fetched (ClaimAnswer.Kept entry state) held k o a =
+    rows-same basis past (Event.Claim client request fetched (ClaimAnswer.Kept entry state)) k refl refl (λ h. h)
+rows-claim basis past client request fetched (ClaimAnswer.Entry entry) held k o a =
+    rows-asked basis past (Event.Claim client request fetched (ClaimAnswer.Entry entry)) Fate.Made _ k (k.doubt_off o)
+    (claim-asks basis past client request fetched (ClaimAnswer.Entry entry) held a refl) refl refl (λ h. refl)
+rows-claim basis past client request fetched (ClaimAnswer.Refused refusal) held k o a =
+    rows-asked basis past (Event.Claim client request fetched (ClaimAnswer.Refused refusal)) (fate_answered (ClaimAnswer.Refused refusal)) _ k (k.doubt_off o)
+    (claim-asks basis past client request fetched (ClaimAnswer.Refused refusal) held a refl) refl refl
     (λ h. let f : is_keeper_fault refusal ≡ false = (or_parts (is_keeper_fault refusal) (off past) h).0 in rw f refl)
 
 -- neither an end nor a judgement makes a row pending
@@ -285,20 +285,20 @@ closing-settled t row view =
     (λ u. by_test (waits_for_boot t) _ (λ v. rw (u, v) refl) (λ v. rw (u, v) (shown-settled (version_of view) row)))
     (λ u. rw u refl)
 
-pub closed-settled : (facts : Facts) (opening : List Row) (past : List Event) (entry : ℕ) (closed : RowState) (stored : Stored) → closing facts opening past entry ≡ Some closed → is_pending (closing_stored closed stored) ≡ false
-closed-settled facts opening past entry closed stored h = store stored (at (trace facts opening entry past) h)
+pub closed-settled : (basis : Basis) (past : List Event) (entry : ℕ) (closed : RowState) (stored : Stored) → closing basis past entry ≡ Some closed → is_pending (closing_stored closed stored) ≡ false
+closed-settled basis past entry closed stored h = store stored (at (trace basis entry past) h)
   where
     at-view : (t : Trace) (row : Row) (o : Option DeviceView) → option_map (closing_of t row) o ≡ Some closed → is_pending closed ≡ false
     at-view t row None g = cc
     at-view t row (Some view) g = let e : closing_of t row view ≡ closed = cc in rw (← e) (closing-settled t row view)
 
-    at-row : (t : Trace) (o : Option Row) → option_and_then (closing_at (views facts opening past) t) o ≡ Some closed → is_pending closed ≡ false
+    at-row : (t : Trace) (o : Option Row) → option_and_then (closing_at (views basis past) t) o ≡ Some closed → is_pending closed ≡ false
     at-row t None g = cc
-    at-row t (Some row) g = at-view t row (view_of_row (views facts opening past) row) g
+    at-row t (Some row) g = at-view t row (view_of_row (views basis past) row) g
 
-    at : (o : Option Trace) → option_and_then (λ t. option_and_then (closing_at (views facts opening past) t) (row_of (rows facts opening past) entry)) o ≡ Some closed → is_pending closed ≡ false
+    at : (o : Option Trace) → option_and_then (λ t. option_and_then (closing_at (views basis past) t) (row_of (rows basis past) entry)) o ≡ Some closed → is_pending closed ≡ false
     at None g = cc
-    at (Some t) g = at-row t (row_of (rows facts opening past) entry) g
+    at (Some t) g = at-row t (row_of (rows basis past) entry) g
 
     store : (stored : Stored) → is_pending closed ≡ false → is_pending (closing_stored closed stored) ≡ false
     store Stored.NoMemory g = refl
@@ -314,56 +314,56 @@ schedule-not_kept next (Decision.Kept entry state) answer h k = let bad : is_kep
 schedule-not_kept next (Decision.Refused refusal) answer h k = refl
 schedule-not_kept next (Decision.Accept device release blocks) answer h k = refl
 
-pub schedule-asks : (facts : Facts) (opening : List Row) (past : List Event) (client : ℕ) (request : Request) (answer : ClaimAnswer) → ScheduleAllowed facts opening past client request answer → is_kept_answer answer ≡ false → IfSome (addition facts (time_of past) (live past) (known facts opening past) client request RowState.Pending) (λ c. NextChange c (rows facts opening past))
-schedule-asks facts opening past client request answer a h =
-    let d = schedule-not_kept (next_entry facts opening past) (verdict facts opening past client request Stage.Schedule) answer a.answer_is h in
-    addition-next facts (time_of past) (live past) (known facts opening past) client request RowState.Pending
-    (not_kept (case_of facts opening past client request Stage.Schedule) d)
+pub schedule-asks : (basis : Basis) (past : List Event) (client : ℕ) (request : Request) (answer : ClaimAnswer) → ScheduleAllowed basis past client request answer → is_kept_answer answer ≡ false → IfSome (addition basis.facts (time_of past) (live past) (known basis past) client request RowState.Pending) (λ c. NextChange c (rows basis past))
+schedule-asks basis past client request answer a h =
+    let d = schedule-not_kept (next_entry basis past) (verdict basis past client request Stage.Schedule) answer a.answer_is h in
+    addition-next basis.facts (time_of past) (live past) (known basis past) client request RowState.Pending
+    (not_kept (case_of basis past client request Stage.Schedule) d)
 
-pub rows-schedule : (facts : Facts) (opening : List Row) (past : List Event) (client : ℕ) (request : Request) (answer : ClaimAnswer) → RowsKept facts opening past → off past ≡ false → ScheduleAllowed facts opening past client request answer → RowsStep facts opening past (Event.Schedule client request answer)
-rows-schedule facts opening past client request (ClaimAnswer.Kept entry state) k o a =
-    rows-same facts opening past (Event.Schedule client request (ClaimAnswer.Kept entry state)) k refl refl (λ h. h)
-rows-schedule facts opening past client request (ClaimAnswer.Entry entry) k o a =
-    rows-asked facts opening past (Event.Schedule client request (ClaimAnswer.Entry entry)) Fate.Made _ k (k.doubt_off o)
-    (schedule-asks facts opening past client request (ClaimAnswer.Entry entry) a refl) refl refl (λ h. refl)
-rows-schedule facts opening past client request (ClaimAnswer.Refused refusal) k o a =
-    rows-asked facts opening past (Event.Schedule client request (ClaimAnswer.Refused refusal)) (fate_answered (ClaimAnswer.Refused refusal)) _ k (k.doubt_off o)
-    (schedule-asks facts opening past client request (ClaimAnswer.Refused refusal) a refl) refl refl
+pub rows-schedule : (basis : Basis) (past : List Event) (client : ℕ) (request : Request) (answer : ClaimAnswer) → RowsKept basis past → off past ≡ false → ScheduleAllowed basis past client request answer → RowsStep basis past (Event.Schedule client request answer)
+rows-schedule basis past client request (ClaimAnswer.Kept entry state) k o a =
+    rows-same basis past (Event.Schedule client request (ClaimAnswer.Kept entry state)) k refl refl (λ h. h)
+rows-schedule basis past client request (ClaimAnswer.Entry entry) k o a =
+    rows-asked basis past (Event.Schedule client request (ClaimAnswer.Entry entry)) Fate.Made _ k (k.doubt_off o)
+    (schedule-asks basis past client request (ClaimAnswer.Entry entry) a refl) refl refl (λ h. refl)
+rows-schedule basis past client request (ClaimAnswer.Refused refusal) k o a =
+    rows-asked basis past (Event.Schedule client request (ClaimAnswer.Refused refusal)) (fate_answered (ClaimAnswer.Refused refusal)) _ k (k.doubt_off o)
+    (schedule-asks basis past client request (ClaimAnswer.Refused refusal) a refl) refl refl
     (λ h. let f : is_keeper_fault refusal ≡ false = (or_parts (is_keeper_fault refusal) (off past) h).0 in rw f refl)
 
-pub rows-resume : (facts : Facts) (opening : List Row) (past : List Event) (client entry : ℕ) (fetched : Option FetchNote) (answer : ResumeAnswer) (stored : Stored) → RowsKept facts opening past → off past ≡ false → RowsStep facts opening past (Event.Resume client entry fetched answer stored)
-rows-resume facts opening past client entry fetched ResumeAnswer.Begun stored k o =
-    rows-asked facts opening past (Event.Resume client entry fetched ResumeAnswer.Begun stored) (fate_stored stored) (resumption (time_of past) (known facts opening past) entry ResumeAnswer.Begun) k (k.doubt_off o) refl refl refl
+pub rows-resume : (basis : Basis) (past : List Event) (client entry : ℕ) (fetched : Option FetchNote) (answer : ResumeAnswer) (stored : Stored) → RowsKept basis past → off past ≡ false → RowsStep basis past (Event.Resume client entry fetched answer stored)
+rows-resume basis past client entry fetched ResumeAnswer.Begun stored k o =
+    rows-asked basis past (Event.Resume client entry fetched ResumeAnswer.Begun stored) (fate_stored stored) (resumption (time_of past) (known basis past) entry ResumeAnswer.Begun) k (k.doubt_off o) refl refl refl
     (λ h. fault-clear stored (or_parts (is_fault stored) (off past) h).0)
-rows-resume facts opening past client entry fetched (ResumeAnswer.Refused refusal) stored k o =
-    rows-asked facts opening past (Event.Resume client entry fetched (ResumeAnswer.Refused refusal) stored) (fate_stored stored) (resumption (time_of past) (known facts opening past) entry (ResumeAnswer.Refused refusal)) k (k.doubt_off o) (resumption-next (time_of past) (known facts opening past) entry (ResumeAnswer.Refused refusal)) refl refl
+rows-resume basis past client entry fetched (ResumeAnswer.Refused refusal) stored k o =
+    rows-asked basis past (Event.Resume client entry fetched (ResumeAnswer.Refused refusal) stored) (fate_stored stored) (resumption (time_of past) (known basis past) entry (ResumeAnswer.Refused refusal)) k (k.doubt_off o) (resumption-next (time_of past) (known basis past) entry (ResumeAnswer.Refused refusal)) refl refl
     (λ h. fault-clear stored (or_parts (is_keeper_fault refusal) (is_fault stored) (or_parts (is_keeper_fault refusal || is_fault stored) (off past) h).0).1)
 
-pub rows-judge : (facts : Facts) (opening : List Row) (past : List Event) (client entry : ℕ) (version : List ℕ) (state : RowState) (stored : Stored) → RowsKept facts opening past → off past ≡ false → is_pending state ≡ false → RowsStep facts opening past (Event.Judge client entry version state stored)
-rows-judge facts opening past client entry version state stored k o p =
-    rows-asked facts opening past (Event.Judge client entry version state stored) (fate_stored stored) (advance (time_of past) (known facts opening past) entry state) k (k.doubt_off o) p refl refl
+pub rows-judge : (basis : Basis) (past : List Event) (client entry : ℕ) (version : List ℕ) (state : RowState) (stored : Stored) → RowsKept basis past → off past ≡ false → is_pending state ≡ false → RowsStep basis past (Event.Judge client entry version state stored)
+rows-judge basis past client entry version state stored k o p =
+    rows-asked basis past (Event.Judge client entry version state stored) (fate_stored stored) (advance (time_of past) (known basis past) entry state) k (k.doubt_off o) p refl refl
     (λ h. fault-clear stored (or_parts (is_fault stored) (off past) h).0)
 
-pub rows-step-on : (c : Campaign) (opening : List Row) (past : List Event) (event : Event) → RowsKept c.facts opening past → BootRuns past event → Allowed c opening past event → RowsStep c.facts opening past event
-rows-step-on c opening past (Event.Boot number time limit found boards) k takes a =
-    rows-boot c opening past number time limit found boards k a.1.found_is
-rows-step-on c opening past (Event.Claim client request fetched answer) k takes a =
-    rows-claim c.facts opening past client request fetched answer a.0 k (takes.on refl) a.1
-rows-step-on c opening past (Event.Schedule client request answer) k takes a =
-    rows-schedule c.facts opening past client request answer k (takes.on refl) a
-rows-step-on c opening past (Event.Resume client entry fetched answer stored) k takes a =
-    rows-resume c.facts opening past client entry fetched answer stored k (takes.on refl)
-rows-step-on c opening past (Event.Finish client entry state stored) k takes a =
-    rows-finish c.facts opening past client entry state stored k (takes.on refl)
-    (let f = a.2 in let s = closed-settled c.facts opening past entry a.1 stored f.closing in let e : state ≡ closing_stored a.1 stored = f.state_is in rw e s)
-rows-step-on c opening past (Event.Judge client entry version state stored) k takes a =
-    rows-judge c.facts opening past client entry version state stored k (takes.on refl)
+pub rows-step-on : (c : Campaign) (past : List Event) (event : Event) → RowsKept c.basis past → BootRuns past event → Allowed c past event → RowsStep c.basis past event
+rows-step-on c past (Event.Boot number time limit found boards) k takes a =
+    rows-boot c past number time limit found boards k a.1.found_is
+rows-step-on c past (Event.Claim client request fetched answer) k takes a =
+    rows-claim c.basis past client request fetched answer a.0 k (takes.on refl) a.1
+rows-step-on c past (Event.Schedule client request answer) k takes a =
+    rows-schedule c.basis past client request answer k (takes.on refl) a
+rows-step-on c past (Event.Resume client entry fetched answer stored) k takes a =
+    rows-resume c.basis past client entry fetched answer stored k (takes.on refl)
+rows-step-on c past (Event.Finish client entry state stored) k takes a =
+    rows-finish c.basis past client entry state stored k (takes.on refl)
+    (let f = a.2 in let s = closed-settled c.basis past entry a.1 stored f.closing in let e : state ≡ closing_stored a.1 stored = f.state_is in rw e s)
+rows-step-on c past (Event.Judge client entry version state stored) k takes a =
+    rows-judge c.basis past client entry version state stored k (takes.on refl)
     (let f = a.2 in let e : state ≡ judge version a.0 = f.state_is in rw e (judged-settled version a.0))
-rows-step-on c opening past Event.Cut k takes a =
-    rows-same c.facts opening past Event.Cut k refl refl (λ h. cc)
-rows-step-on c opening past event k takes a =
-    rows-same c.facts opening past event k refl refl (λ h. h)
+rows-step-on c past Event.Cut k takes a =
+    rows-same c.basis past Event.Cut k refl refl (λ h. cc)
+rows-step-on c past event k takes a =
+    rows-same c.basis past event k refl refl (λ h. h)
 
 -- The same in a boot that is below its limit.
-pub rows-step : (c : Campaign) (opening : List Row) (past : List Event) (event : Event) → RowsKept c.facts opening past → BootTakes past event → Allowed c opening past event → RowsStep c.facts opening past event
-rows-step c opening past event k takes a = rows-step-on c opening past event k (boot-runs past event takes) a
+pub rows-step : (c : Campaign) (past : List Event) (event : Event) → RowsKept c.basis past → BootTakes past event → Allowed c past event → RowsStep c.basis past event
+rows-step c past event k takes a = rows-step-on c past event k (boot-runs past event takes) a

@@ -7,7 +7,6 @@ use Rattle.emulated_boards.specs.declared.fault.BoardFault.{BoardFault}
 use Rattle.emulated_boards.specs.declared.mark.Mark.{Mark}
 use Rattle.fw_facts.specs.declared.seen.Seen.{Seen}
 use Rattle.fw_facts.specs.declared.view.DeviceView.{DeviceView}
-use Rattle.history_keeper.specs.declared.row.Row.{Row}
 use Rattle.history_keeper.specs.Histories.{IsHistory}
 use Rattle.update_log.proofs.LegalOnce.{past-kept-on}
 use Rattle.update_log.proofs.Lists.{by_test}
@@ -64,48 +63,48 @@ ended-above s op rest e i =
     let a : last_ended rest < op_number op = above op rest j in
     rw e a
 
-end-above : (c : Campaign) (opening : List Row) (past : List Event) (client entry : ℕ) (op : Op) (outcome : Result (Unit {0}) BoardFault) (told : List Mark) (seen : Seen)
-    → StepsKept c.facts opening past → EndAllowed c.facts c.first opening past client entry op outcome told seen → last_ended (strokes entry past) < op_number op
-end-above c opening past client entry op outcome told seen k a =
+end-above : (c : Campaign) (past : List Event) (client entry : ℕ) (op : Op) (outcome : Result (Unit {0}) BoardFault) (told : List Mark) (seen : Seen)
+    → StepsKept c.basis past → EndAllowed c.basis c.first past client entry op outcome told seen → last_ended (strokes entry past) < op_number op
+end-above c past client entry op outcome told seen k a =
     let st = open-started past entry (record { client = client; entry = entry; op = op }) k.open_are a.open_is in
     ended-above (strokes entry past) op st.0 st.1 (k.order entry)
 
-few-step : (c : Campaign) (opening : List Row) (past : List Event) (event : Event) → StepsKept c.facts opening past → Allowed c opening past event
-    → (e : ℕ) → AtMost (last_ended (strokes e past)) (trace c.facts opening e past)
-    → AtMost (last_ended (strokes e (event ∷ past))) (trace c.facts opening e (event ∷ past))
-few-step c opening past (Event.Claim client request fetched (ClaimAnswer.Entry entry)) k a e h =
+few-step : (c : Campaign) (past : List Event) (event : Event) → StepsKept c.basis past → Allowed c past event
+    → (e : ℕ) → AtMost (last_ended (strokes e past)) (trace c.basis e past)
+    → AtMost (last_ended (strokes e (event ∷ past))) (trace c.basis e (event ∷ past))
+few-step c past (Event.Claim client request fetched (ClaimAnswer.Entry entry)) k a e h =
     by_test (entry == e) _
-    (λ t. rw t (first-few (target c.facts (views c.facts opening past) request) (last_ended (strokes e past))))
+    (λ t. rw t (first-few (target c.basis.facts (views c.basis past) request) (last_ended (strokes e past))))
     (λ f. rw f h)
-few-step c opening past (Event.Resume client entry fetched ResumeAnswer.Begun stored) k a e h =
+few-step c past (Event.Resume client entry fetched ResumeAnswer.Begun stored) k a e h =
     by_test (entry == e) _
-    (λ t. rw t (resumed-few c.facts (views c.facts opening past) (request_held (holds past) client) (last_ended (strokes e past))))
+    (λ t. rw t (resumed-few c.basis.facts (views c.basis past) (request_held (holds past) client) (last_ended (strokes e past))))
     (λ f. rw f h)
-few-step c opening past (Event.Start client entry op) k a e h = by_test (entry == e) _ (λ t. rw t h) (λ f. rw f h)
-few-step c opening past (Event.End client entry op outcome told seen) k a e h =
+few-step c past (Event.Start client entry op) k a e h = by_test (entry == e) _ (λ t. rw t h) (λ f. rw f h)
+few-step c past (Event.End client entry op outcome told seen) k a e h =
     by_test (entry == e) _
     (λ t. let s : entry ≡ e = eqb-true entry e t in
-    let a' : last_ended (strokes entry past) < op_number op = end-above c opening past client entry op outcome told seen k a in
+    let a' : last_ended (strokes entry past) < op_number op = end-above c past client entry op outcome told seen k a in
     let lt : last_ended (strokes e past) < op_number op = rw s at a' in
-    rw t (pushed-few (trace c.facts opening e past) (record { op = op; outcome = outcome; seen = seen }) (last_ended (strokes e past)) (op_number op) lt h))
+    rw t (pushed-few (trace c.basis e past) (record { op = op; outcome = outcome; seen = seen }) (last_ended (strokes e past)) (op_number op) lt h))
     (λ f. rw f h)
-few-step c opening past _ k a e h = h
+few-step c past _ k a e h = h
 
-few-steps : (c : Campaign) (opening : List Row) (past : List Event) → IsHistory opening → IsLegalUnlimited c opening past
-    → (e : ℕ) → AtMost (last_ended (strokes e past)) (trace c.facts opening e past)
-few-steps c opening [] v l e = tt
-few-steps c opening (event ∷ past) v l e =
-    let k = past-kept-on c opening past v l.0 in
-    few-step c opening past event k.steps l.2 e (few-steps c opening past v l.0 e)
+few-steps : (c : Campaign) (past : List Event) → IsHistory c.basis.opening → IsLegalUnlimited c past
+    → (e : ℕ) → AtMost (last_ended (strokes e past)) (trace c.basis e past)
+few-steps c [] v l e = tt
+few-steps c (event ∷ past) v l e =
+    let k = past-kept-on c past v l.0 in
+    few-step c past event k.steps l.2 e (few-steps c past v l.0 e)
 
 few-end : (o : Option Trace) (n m : ℕ) → n < m → m ≤ 6 → AtMost n o → IfSome o (λ t. length t.steps < 6)
 few-end None n m lt le h = tt
 few-end (Some t) n m lt le h = omega (arith, h)
 
 -- An entry that ends a step has fewer than six.
-pub end-few : (c : Campaign) (opening : List Row) (past : List Event) (client entry : ℕ) (op : Op) (outcome : Result (Unit {0}) BoardFault) (told : List Mark) (seen : Seen)
-    → IsHistory opening → IsLegalUnlimited c opening (Event.End client entry op outcome told seen ∷ past) → IfSome (trace c.facts opening entry past) (λ t. length t.steps < 6)
-end-few c opening past client entry op outcome told seen v l =
-    let k = past-kept-on c opening past v l.0 in
-    few-end (trace c.facts opening entry past) (last_ended (strokes entry past)) (op_number op)
-    (end-above c opening past client entry op outcome told seen k.steps l.2) (op-six op) (few-steps c opening past v l.0 entry)
+pub end-few : (c : Campaign) (past : List Event) (client entry : ℕ) (op : Op) (outcome : Result (Unit {0}) BoardFault) (told : List Mark) (seen : Seen)
+    → IsHistory c.basis.opening → IsLegalUnlimited c (Event.End client entry op outcome told seen ∷ past) → IfSome (trace c.basis entry past) (λ t. length t.steps < 6)
+end-few c past client entry op outcome told seen v l =
+    let k = past-kept-on c past v l.0 in
+    few-end (trace c.basis entry past) (last_ended (strokes entry past)) (op_number op)
+    (end-above c past client entry op outcome told seen k.steps l.2) (op-six op) (few-steps c past v l.0 entry)

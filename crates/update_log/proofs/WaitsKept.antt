@@ -24,7 +24,7 @@ use Rattle.update_log.proofs.Unlimited.{unlimited}
 use Rattle.update_log.proofs.WaitsOnce.{KeepsOnce, WaitOnce, by-once, found-once, found-own, only-waits, push-state, state-by, state-made, state_of, waits-once, waits_on}
 use Rattle.update_log.specs.Boards.{Board, devices}
 use Rattle.update_log.specs.Holding.{blocks_fetched, blocks_fetched_if, is_live, live}
-use Rattle.update_log.specs.Known.{Fate, Known, Target, addition, advance, doubt, doubt_by, doubt_found, fate_answered, fate_stored, is_on, known, new_row, reason_of, refusal_number, row_of, rows, rows_by, rows_found, target, target_at, target_of, view_of, views, views_in}
+use Rattle.update_log.specs.Known.{Basis, Fate, Known, Target, addition, advance, doubt, doubt_by, doubt_found, fate_answered, fate_stored, is_on, known, new_row, reason_of, refusal_number, row_of, rows, rows_by, rows_found, target, target_at, target_of, view_of, views, views_in}
 use Rattle.update_log.specs.Legal.{Allowed, BootRuns, ClaimAllowed, ClaimAnswered, FinishAllowed, IsLegal, IsLegalUnlimited, JudgeAllowed, ResumeAllowed, ScheduleAllowed, ScheduleAnswered, may_judge, next_entry}
 use Rattle.update_log.specs.Pasts.{is_keeper_fault, off, time_of}
 use Rattle.update_log.specs.Shows.{Campaign}
@@ -53,10 +53,10 @@ abbrev pub AllBegun : List Row → List LiveEntry → Type 0
 AllBegun rows entries = AllByRecursion (λ l. state_of rows l.entry ≡ Some RowState.Begun) entries
 
 -- What each legal past keeps of the rows that wait.
-pub record WaitKept (facts : Facts) (opening : List Row) (past : List Event) : Type 0 where
-  pub once : WaitOnce (rows facts opening past)
-  pub doubt_once : IfSome (doubt facts opening past) (λ c. KeepsOnce c (rows facts opening past))
-  pub begun : AllBegun (rows facts opening past) (live past)
+pub record WaitKept (basis : Basis) (past : List Event) : Type 0 where
+  pub once : WaitOnce (rows basis past)
+  pub doubt_once : IfSome (doubt basis past) (λ c. KeepsOnce c (rows basis past))
+  pub begun : AllBegun (rows basis past) (live past)
 
 -- An accepted request's device has no row that waits.
 
@@ -121,18 +121,18 @@ waits-or true true o h a b = cc
 waits-or true false true h a b = cc
 waits-or true false false h a b = cc
 
-accepted-free : (facts : Facts) (opening : List Row) (past : List Event) (client : ℕ) (request : Request) (stage : Stage) (t : Target) → pending_of stage ≡ None → EntriesFrom 1 (rows facts opening past) → HasTarget (case_of facts opening past client request stage) t → list_any (waits_on t.view.sheet.device) (rows facts opening past) ≡ false
-accepted-free facts opening past client request stage t own v has =
-    let c : Case = case_of facts opening past client request stage in
+accepted-free : (basis : Basis) (past : List Event) (client : ℕ) (request : Request) (stage : Stage) (t : Target) → pending_of stage ≡ None → EntriesFrom 1 (rows basis past) → HasTarget (case_of basis past client request stage) t → list_any (waits_on t.view.sheet.device) (rows basis past) ≡ false
+accepted-free basis past client request stage t own v has =
+    let c : Case = case_of basis past client request stage in
     let n : NoneRefuses c t = has.none in
     let claim : t.view.claim ≡ None = map-none (λ entry. Refusal.Busy entry) t.view.claim n.is_busy in
-    let none : find (is_on (rows facts opening past) t.view.sheet.device) (live past) ≡ None =
-    map-none (λ (l : LiveEntry). l.entry) (find (is_on (rows facts opening past) t.view.sheet.device) (live past))
-    (sym (target-claim facts (live past) (known facts opening past) request t has.found) ∙ claim) in
-    no-way (rows facts opening past) t.view.sheet.device (live past) (is_in_the_way c t) (rows facts opening past)
+    let none : find (is_on (rows basis past) t.view.sheet.device) (live past) ≡ None =
+    map-none (λ (l : LiveEntry). l.entry) (find (is_on (rows basis past) t.view.sheet.device) (live past))
+    (sym (target-claim basis.facts (live past) (known basis past) request t has.found) ∙ claim) in
+    no-way (rows basis past) t.view.sheet.device (live past) (is_in_the_way c t) (rows basis past)
     (λ r w l. waits-or (waits_on t.view.sheet.device r) (is_live (live past) r.entry) (is_own c r) w l (ap (λ o. unwrap_or (option_map (λ entry. entry == r.entry) o) false) own))
-    (found-own 1 (rows facts opening past) v)
-    (map-none (λ (r : Row). Refusal.Unsettled r.entry) (find (is_in_the_way c t) (rows facts opening past)) n.is_unsettled)
+    (found-own 1 (rows basis past) v)
+    (map-none (λ (r : Row). Refusal.Unsettled r.entry) (find (is_in_the_way c t) (rows basis past)) n.is_unsettled)
     none
 
 -- No request is refused for the history's fault before its commit.
@@ -195,20 +195,20 @@ decided-not c h = at-kept (kept c) h
 -- One event more.
 
 -- an event that leaves the rows and the doubt
-wait-same : (facts : Facts) (opening : List Row) (past : List Event) (event : Event) → WaitKept facts opening past → rows facts opening (event ∷ past) ≡ rows facts opening past → doubt facts opening (event ∷ past) ≡ doubt facts opening past → ((P : LiveEntry → Type 0) → AllByRecursion P (live past) → AllByRecursion P (live (event ∷ past))) → WaitKept facts opening (event ∷ past)
-wait-same facts opening past event k r d l =
+wait-same : (basis : Basis) (past : List Event) (event : Event) → WaitKept basis past → rows basis (event ∷ past) ≡ rows basis past → doubt basis (event ∷ past) ≡ doubt basis past → ((P : LiveEntry → Type 0) → AllByRecursion P (live past) → AllByRecursion P (live (event ∷ past))) → WaitKept basis (event ∷ past)
+wait-same basis past event k r d l =
     record {
       once = subst WaitOnce (sym r) k.once;
       doubt_once = rw (d, r) k.doubt_once;
-      begun = subst (λ (rs : List Row). AllBegun rs (live (event ∷ past))) (sym r) (l (λ x. state_of (rows facts opening past) x.entry ≡ Some RowState.Begun) k.begun);
+      begun = subst (λ (rs : List Row). AllBegun rs (live (event ∷ past))) (sym r) (l (λ x. state_of (rows basis past) x.entry ≡ Some RowState.Begun) k.begun);
     }
 
 -- an event that asks for a change
-wait-asked : (facts : Facts) (opening : List Row) (past : List Event) (event : Event) (fate : Fate) (change : Option Change) → WaitKept facts opening past → doubt facts opening past ≡ None → IfSome change (λ c. KeepsOnce c (rows facts opening past)) → rows facts opening (event ∷ past) ≡ rows_by fate change (rows facts opening past) → doubt facts opening (event ∷ past) ≡ doubt_by fate change (doubt facts opening past) → AllBegun (rows_by fate change (rows facts opening past)) (live (event ∷ past)) → WaitKept facts opening (event ∷ past)
-wait-asked facts opening past event fate change k none n r d b =
+wait-asked : (basis : Basis) (past : List Event) (event : Event) (fate : Fate) (change : Option Change) → WaitKept basis past → doubt basis past ≡ None → IfSome change (λ c. KeepsOnce c (rows basis past)) → rows basis (event ∷ past) ≡ rows_by fate change (rows basis past) → doubt basis (event ∷ past) ≡ doubt_by fate change (doubt basis past) → AllBegun (rows_by fate change (rows basis past)) (live (event ∷ past)) → WaitKept basis (event ∷ past)
+wait-asked basis past event fate change k none n r d b =
     record {
-      once = subst WaitOnce (sym r) (by-once fate change (rows facts opening past) n k.once);
-      doubt_once = rw (d, r, none) (next fate change (rows facts opening past) n);
+      once = subst WaitOnce (sym r) (by-once fate change (rows basis past) n k.once);
+      doubt_once = rw (d, r, none) (next fate change (rows basis past) n);
       begun = subst (λ (rs : List Row). AllBegun rs (live (event ∷ past))) (sym r) b;
     }
   where
@@ -218,17 +218,17 @@ wait-asked facts opening past event fate change k none n r d b =
     next Fate.Doubtful change rows h = h
 
 -- an event that asks for another state of a row that isn't live
-wait-advanced : (facts : Facts) (opening : List Row) (past : List Event) (event : Event) (fate : Fate) (entry : ℕ) (state : RowState) (reason time : ℕ) → WaitKept facts opening past → doubt facts opening past ≡ None → KeepsOnce (Change.Advance entry state reason time) (rows facts opening past) → AllByRecursion (λ l. (entry == l.entry) ≡ false) (live past) → rows facts opening (event ∷ past) ≡ rows_by fate (Some (Change.Advance entry state reason time)) (rows facts opening past) → doubt facts opening (event ∷ past) ≡ doubt_by fate (Some (Change.Advance entry state reason time)) (doubt facts opening past) → live (event ∷ past) ≡ live past → WaitKept facts opening (event ∷ past)
-wait-advanced facts opening past event fate entry state reason time k none n apart r d l =
-    wait-asked facts opening past event fate (Some (Change.Advance entry state reason time)) k none n r d
-    (subst (AllBegun (rows_by fate (Some (Change.Advance entry state reason time)) (rows facts opening past))) (sym l)
-    (All-both _ _ _ (live past) k.begun apart (λ x h f. state-by fate entry state reason time (rows facts opening past) x.entry f ∙ h)))
+wait-advanced : (basis : Basis) (past : List Event) (event : Event) (fate : Fate) (entry : ℕ) (state : RowState) (reason time : ℕ) → WaitKept basis past → doubt basis past ≡ None → KeepsOnce (Change.Advance entry state reason time) (rows basis past) → AllByRecursion (λ l. (entry == l.entry) ≡ false) (live past) → rows basis (event ∷ past) ≡ rows_by fate (Some (Change.Advance entry state reason time)) (rows basis past) → doubt basis (event ∷ past) ≡ doubt_by fate (Some (Change.Advance entry state reason time)) (doubt basis past) → live (event ∷ past) ≡ live past → WaitKept basis (event ∷ past)
+wait-advanced basis past event fate entry state reason time k none n apart r d l =
+    wait-asked basis past event fate (Some (Change.Advance entry state reason time)) k none n r d
+    (subst (AllBegun (rows_by fate (Some (Change.Advance entry state reason time)) (rows basis past))) (sym l)
+    (All-both _ _ _ (live past) k.begun apart (λ x h f. state-by fate entry state reason time (rows basis past) x.entry f ∙ h)))
 
-wait-boot : (facts : Facts) (opening : List Row) (past : List Event) (number time : ℕ) (limit : Option ℕ) (found : Found) (boards : List BoardSeen) → WaitKept facts opening past → WaitKept facts opening (Event.Boot number time limit found boards ∷ past)
-wait-boot facts opening past number time limit found boards k =
+wait-boot : (basis : Basis) (past : List Event) (number time : ℕ) (limit : Option ℕ) (found : Found) (boards : List BoardSeen) → WaitKept basis past → WaitKept basis (Event.Boot number time limit found boards ∷ past)
+wait-boot basis past number time limit found boards k =
     record {
-      once = found-once found (doubt facts opening past) (rows facts opening past) k.doubt_once k.once;
-      doubt_once = next found (doubt facts opening past) (rows facts opening past) k.doubt_once;
+      once = found-once found (doubt basis past) (rows basis past) k.doubt_once k.once;
+      doubt_once = next found (doubt basis past) (rows basis past) k.doubt_once;
       begun = tt;
     }
   where
@@ -265,80 +265,80 @@ accepted-schedule next (Decision.Refused r) entry h = cc
 accepted-schedule next (Decision.Accept device release blocks) entry h = (device, blocks, release, refl)
 
 -- the change that such a request asks for
-abbrev pub asks : Facts → List Row → List Event → ℕ → Request → RowState → Option Change
-asks facts opening past client request state = addition facts (time_of past) (live past) (known facts opening past) client request state
+abbrev pub asks : Basis → List Event → ℕ → Request → RowState → Option Change
+asks basis past client request state = addition basis.facts (time_of past) (live past) (known basis past) client request state
 
-accept-keeps : (facts : Facts) (opening : List Row) (past : List Event) (client : ℕ) (request : Request) (stage : Stage) (state : RowState) → pending_of stage ≡ None → EntriesFrom 1 (rows facts opening past) → IsAccepted (verdict facts opening past client request stage) → IfSome (asks facts opening past client request state) (λ c. KeepsOnce c (rows facts opening past))
-accept-keeps facts opening past client request stage state own v d =
-    let u = accepts-target (case_of facts opening past client request stage) d.0 d.1 d.2 d.3 in
+accept-keeps : (basis : Basis) (past : List Event) (client : ℕ) (request : Request) (stage : Stage) (state : RowState) → pending_of stage ≡ None → EntriesFrom 1 (rows basis past) → IsAccepted (verdict basis past client request stage) → IfSome (asks basis past client request state) (λ c. KeepsOnce c (rows basis past))
+accept-keeps basis past client request stage state own v d =
+    let u = accepts-target (case_of basis past client request stage) d.0 d.1 d.2 d.3 in
     let t : Target = u.0 in
     let has = u.1 in
-    subst (λ (o : Option Target). IfSome (option_map (λ x. Change.Add (new_row (length (rows facts opening past) + 1) (time_of past) client request state x)) o) (λ c. KeepsOnce c (rows facts opening past)))
+    subst (λ (o : Option Target). IfSome (option_map (λ x. Change.Add (new_row (length (rows basis past) + 1) (time_of past) client request state x)) o) (λ c. KeepsOnce c (rows basis past)))
     (sym has.found)
-    (accepted-free facts opening past client request stage t own v has)
+    (accepted-free basis past client request stage t own v has)
 
 -- the live entries, once its row was added
-added-begun : (facts : Facts) (opening : List Row) (past : List Event) (client : ℕ) (request : Request) (state : RowState) → AllBegun (rows facts opening past) (live past) → AllBegun (rows_by Fate.Made (asks facts opening past client request state) (rows facts opening past)) (live past)
-added-begun facts opening past client request state b = at (target facts (views facts opening past) request)
+added-begun : (basis : Basis) (past : List Event) (client : ℕ) (request : Request) (state : RowState) → AllBegun (rows basis past) (live past) → AllBegun (rows_by Fate.Made (asks basis past client request state) (rows basis past)) (live past)
+added-begun basis past client request state b = at (target basis.facts (views basis past) request)
   where
-    at : (o : Option Target) → AllBegun (rows_by Fate.Made (option_map (λ x. Change.Add (new_row (length (rows facts opening past) + 1) (time_of past) client request state x)) o) (rows facts opening past)) (live past)
+    at : (o : Option Target) → AllBegun (rows_by Fate.Made (option_map (λ x. Change.Add (new_row (length (rows basis past) + 1) (time_of past) client request state x)) o) (rows basis past)) (live past)
     at None = b
-    at (Some t) = All-map _ _ (live past) b (λ l h. push-state (rows facts opening past) (new_row (length (rows facts opening past) + 1) (time_of past) client request state t) l.entry RowState.Begun h)
+    at (Some t) = All-map _ _ (live past) b (λ l h. push-state (rows basis past) (new_row (length (rows basis past) + 1) (time_of past) client request state t) l.entry RowState.Begun h)
 
 -- its row's state
-added-state : (facts : Facts) (opening : List Row) (past : List Event) (client : ℕ) (request : Request) (state : RowState) (entry : ℕ) (t : Target) → EntriesFrom 1 (rows facts opening past) → target facts (views facts opening past) request ≡ Some t → entry ≡ next_entry facts opening past → state_of (rows_by Fate.Made (asks facts opening past client request state) (rows facts opening past)) entry ≡ Some state
-added-state facts opening past client request state entry t v found next =
-    subst (λ (o : Option Target). state_of (rows_by Fate.Made (option_map (λ x. Change.Add (new_row (length (rows facts opening past) + 1) (time_of past) client request state x)) o) (rows facts opening past)) entry ≡ Some state)
+added-state : (basis : Basis) (past : List Event) (client : ℕ) (request : Request) (state : RowState) (entry : ℕ) (t : Target) → EntriesFrom 1 (rows basis past) → target basis.facts (views basis past) request ≡ Some t → entry ≡ next_entry basis past → state_of (rows_by Fate.Made (asks basis past client request state) (rows basis past)) entry ≡ Some state
+added-state basis past client request state entry t v found next =
+    subst (λ (o : Option Target). state_of (rows_by Fate.Made (option_map (λ x. Change.Add (new_row (length (rows basis past) + 1) (time_of past) client request state x)) o) (rows basis past)) entry ≡ Some state)
     (sym found)
     (ap (option_map (λ r. r.state))
-    (find-push_new (λ r. r.entry == entry) (rows facts opening past) (new_row (length (rows facts opening past) + 1) (time_of past) client request state t)
-    (row_of-past 1 (rows facts opening past) entry v (omega arith))
-    (eq-eqb (length (rows facts opening past) + 1) entry (sym next))))
+    (find-push_new (λ r. r.entry == entry) (rows basis past) (new_row (length (rows basis past) + 1) (time_of past) client request state t)
+    (row_of-past 1 (rows basis past) entry v (omega arith))
+    (eq-eqb (length (rows basis past) + 1) entry (sym next))))
 
-wait-claim : (facts : Facts) (opening : List Row) (past : List Event) (client : ℕ) (request : Request) (fetched : FetchNote) (answer : ClaimAnswer) (held : Held) → WaitKept facts opening past → RowsKept facts opening past → off past ≡ false → ClaimAllowed facts opening past client request fetched answer held → WaitKept facts opening (Event.Claim client request fetched answer ∷ past)
-wait-claim facts opening past client request fetched (ClaimAnswer.Kept entry state) held k r o a =
-    wait-same facts opening past (Event.Claim client request fetched (ClaimAnswer.Kept entry state)) k refl refl (λ P h. h)
-wait-claim facts opening past client request fetched (ClaimAnswer.Entry entry) held k r o a =
-    let d = accepted-claim fetched (target facts (views facts opening past) request) (next_entry facts opening past) (verdict facts opening past client request (Stage.Claim held.release)) entry a.answer_is in
-    let u = accepts-target (case_of facts opening past client request (Stage.Claim held.release)) d.0 d.1 d.2 d.3 in
+wait-claim : (basis : Basis) (past : List Event) (client : ℕ) (request : Request) (fetched : FetchNote) (answer : ClaimAnswer) (held : Held) → WaitKept basis past → RowsKept basis past → off past ≡ false → ClaimAllowed basis past client request fetched answer held → WaitKept basis (Event.Claim client request fetched answer ∷ past)
+wait-claim basis past client request fetched (ClaimAnswer.Kept entry state) held k r o a =
+    wait-same basis past (Event.Claim client request fetched (ClaimAnswer.Kept entry state)) k refl refl (λ P h. h)
+wait-claim basis past client request fetched (ClaimAnswer.Entry entry) held k r o a =
+    let d = accepted-claim fetched (target basis.facts (views basis past) request) (next_entry basis past) (verdict basis past client request (Stage.Claim held.release)) entry a.answer_is in
+    let u = accepts-target (case_of basis past client request (Stage.Claim held.release)) d.0 d.1 d.2 d.3 in
     let has = u.1 in
-    wait-asked facts opening past (Event.Claim client request fetched (ClaimAnswer.Entry entry)) Fate.Made _ k (r.doubt_off o)
-    (accept-keeps facts opening past client request (Stage.Claim held.release) RowState.Begun refl r.valid.entries (d.0, d.1, d.2, d.3))
+    wait-asked basis past (Event.Claim client request fetched (ClaimAnswer.Entry entry)) Fate.Made _ k (r.doubt_off o)
+    (accept-keeps basis past client request (Stage.Claim held.release) RowState.Begun refl r.valid.entries (d.0, d.1, d.2, d.3))
     refl refl
     (All-push _ (live past) (record { client = client; entry = entry; blocks = blocks_fetched fetched })
-    (added-begun facts opening past client request RowState.Begun k.begun)
-    (added-state facts opening past client request RowState.Begun entry u.0 r.valid.entries has.found d.4))
-wait-claim facts opening past client request fetched (ClaimAnswer.Refused refusal) held k r o a =
+    (added-begun basis past client request RowState.Begun k.begun)
+    (added-state basis past client request RowState.Begun entry u.0 r.valid.entries has.found d.4))
+wait-claim basis past client request fetched (ClaimAnswer.Refused refusal) held k r o a =
     by_test (is_keeper_fault refusal) _
-    (λ f. wait-asked facts opening past event (fate_answered (ClaimAnswer.Refused refusal)) (asks facts opening past client request RowState.Begun) k (r.doubt_off o)
-    (accept-keeps facts opening past client request (Stage.Claim held.release) RowState.Begun refl r.valid.entries
-    (doubted-claim fetched (target facts (views facts opening past) request) (next_entry facts opening past) (verdict facts opening past client request (Stage.Claim held.release)) refusal a.answer_is f
-    (decided-not (case_of facts opening past client request (Stage.Claim held.release)))))
+    (λ f. wait-asked basis past event (fate_answered (ClaimAnswer.Refused refusal)) (asks basis past client request RowState.Begun) k (r.doubt_off o)
+    (accept-keeps basis past client request (Stage.Claim held.release) RowState.Begun refl r.valid.entries
+    (doubted-claim fetched (target basis.facts (views basis past) request) (next_entry basis past) (verdict basis past client request (Stage.Claim held.release)) refusal a.answer_is f
+    (decided-not (case_of basis past client request (Stage.Claim held.release)))))
     refl refl
-    (subst (λ (rs : List Row). AllBegun rs (live past)) (sym (rows_by-refused (is_keeper_fault refusal) (asks facts opening past client request RowState.Begun) (rows facts opening past))) k.begun))
-    (λ f. wait-same facts opening past event k (rows_by-refused (is_keeper_fault refusal) (asks facts opening past client request RowState.Begun) (rows facts opening past)) (rw f refl) (λ P h. h))
+    (subst (λ (rs : List Row). AllBegun rs (live past)) (sym (rows_by-refused (is_keeper_fault refusal) (asks basis past client request RowState.Begun) (rows basis past))) k.begun))
+    (λ f. wait-same basis past event k (rows_by-refused (is_keeper_fault refusal) (asks basis past client request RowState.Begun) (rows basis past)) (rw f refl) (λ P h. h))
   where
     event : Event
     event = Event.Claim client request fetched (ClaimAnswer.Refused refusal)
 
-wait-schedule : (facts : Facts) (opening : List Row) (past : List Event) (client : ℕ) (request : Request) (answer : ClaimAnswer) → WaitKept facts opening past → RowsKept facts opening past → off past ≡ false → ScheduleAllowed facts opening past client request answer → WaitKept facts opening (Event.Schedule client request answer ∷ past)
-wait-schedule facts opening past client request (ClaimAnswer.Kept entry state) k r o a =
-    wait-same facts opening past (Event.Schedule client request (ClaimAnswer.Kept entry state)) k refl refl (λ P h. h)
-wait-schedule facts opening past client request (ClaimAnswer.Entry entry) k r o a =
-    wait-asked facts opening past (Event.Schedule client request (ClaimAnswer.Entry entry)) Fate.Made _ k (r.doubt_off o)
-    (accept-keeps facts opening past client request Stage.Schedule RowState.Pending refl r.valid.entries
-    (accepted-schedule (next_entry facts opening past) (verdict facts opening past client request Stage.Schedule) entry a.answer_is))
+wait-schedule : (basis : Basis) (past : List Event) (client : ℕ) (request : Request) (answer : ClaimAnswer) → WaitKept basis past → RowsKept basis past → off past ≡ false → ScheduleAllowed basis past client request answer → WaitKept basis (Event.Schedule client request answer ∷ past)
+wait-schedule basis past client request (ClaimAnswer.Kept entry state) k r o a =
+    wait-same basis past (Event.Schedule client request (ClaimAnswer.Kept entry state)) k refl refl (λ P h. h)
+wait-schedule basis past client request (ClaimAnswer.Entry entry) k r o a =
+    wait-asked basis past (Event.Schedule client request (ClaimAnswer.Entry entry)) Fate.Made _ k (r.doubt_off o)
+    (accept-keeps basis past client request Stage.Schedule RowState.Pending refl r.valid.entries
+    (accepted-schedule (next_entry basis past) (verdict basis past client request Stage.Schedule) entry a.answer_is))
     refl refl
-    (added-begun facts opening past client request RowState.Pending k.begun)
-wait-schedule facts opening past client request (ClaimAnswer.Refused refusal) k r o a =
+    (added-begun basis past client request RowState.Pending k.begun)
+wait-schedule basis past client request (ClaimAnswer.Refused refusal) k r o a =
     by_test (is_keeper_fault refusal) _
-    (λ f. wait-asked facts opening past event (fate_answered (ClaimAnswer.Refused refusal)) (asks facts opening past client request RowState.Pending) k (r.doubt_off o)
-    (accept-keeps facts opening past client request Stage.Schedule RowState.Pending refl r.valid.entries
-    (doubted-schedule (next_entry facts opening past) (verdict facts opening past client request Stage.Schedule) refusal a.answer_is f
-    (decided-not (case_of facts opening past client request Stage.Schedule))))
+    (λ f. wait-asked basis past event (fate_answered (ClaimAnswer.Refused refusal)) (asks basis past client request RowState.Pending) k (r.doubt_off o)
+    (accept-keeps basis past client request Stage.Schedule RowState.Pending refl r.valid.entries
+    (doubted-schedule (next_entry basis past) (verdict basis past client request Stage.Schedule) refusal a.answer_is f
+    (decided-not (case_of basis past client request Stage.Schedule))))
     refl refl
-    (subst (λ (rs : List Row). AllBegun rs (live past)) (sym (rows_by-refused (is_keeper_fault refusal) (asks facts opening past client request RowState.Pending) (rows facts opening past))) k.begun))
-    (λ f. wait-same facts opening past event k (rows_by-refused (is_keeper_fault refusal) (asks facts opening past client request RowState.Pending) (rows facts opening past)) (rw f refl) (λ P h. h))
+    (subst (λ (rs : List Row). AllBegun rs (live past)) (sym (rows_by-refused (is_keeper_fault refusal) (asks basis past client request RowState.Pending) (rows basis past))) k.begun))
+    (λ f. wait-same basis past event k (rows_by-refused (is_keeper_fault refusal) (asks basis past client request RowState.Pending) (rows basis past)) (rw f refl) (λ P h. h))
   where
     event : Event
     event = Event.Schedule client request (ClaimAnswer.Refused refusal)
@@ -366,83 +366,83 @@ judged-apart past rs entry _ w s b = cc
 judged-done : (shown : List ℕ) (row : Row) → is_unsettled (judge shown row) ≡ false
 judged-done shown row = by_test (same_version shown row.version_new) _ (λ t. rw t refl) (λ t. rw t refl)
 
-wait-judge : (facts : Facts) (opening : List Row) (past : List Event) (client entry : ℕ) (version : List ℕ) (state : RowState) (stored : Stored) (row : Row) (view : DeviceView) → WaitKept facts opening past → RowsKept facts opening past → off past ≡ false → JudgeAllowed facts opening past entry version state stored row view → WaitKept facts opening (Event.Judge client entry version state stored ∷ past)
-wait-judge facts opening past client entry version state stored row view k r o a =
-    let is : state_of (rows facts opening past) entry ≡ Some row.state = ap (option_map (λ x. x.state)) a.row_is in
+wait-judge : (basis : Basis) (past : List Event) (client entry : ℕ) (version : List ℕ) (state : RowState) (stored : Stored) (row : Row) (view : DeviceView) → WaitKept basis past → RowsKept basis past → off past ≡ false → JudgeAllowed basis past entry version state stored row view → WaitKept basis (Event.Judge client entry version state stored ∷ past)
+wait-judge basis past client entry version state stored row view k r o a =
+    let is : state_of (rows basis past) entry ≡ Some row.state = ap (option_map (λ x. x.state)) a.row_is in
     let done : is_unsettled state ≡ false = ap is_unsettled a.state_is ∙ judged-done version row in
-    wait-advanced facts opening past (Event.Judge client entry version state stored) (fate_stored stored) entry state (reason_of (rows facts opening past) entry) (time_of past) k (r.doubt_off o)
+    wait-advanced basis past (Event.Judge client entry version state stored) (fate_stored stored) entry state (reason_of (rows basis past) entry) (time_of past) k (r.doubt_off o)
     (λ u. let bad : true ≡ false = sym u ∙ done in cc)
-    (judged-apart past (rows facts opening past) entry row.state a.waits is k.begun)
+    (judged-apart past (rows basis past) entry row.state a.waits is k.begun)
     refl refl refl
 
-wait-finish : (facts : Facts) (opening : List Row) (past : List Event) (client entry : ℕ) (state : RowState) (stored : Stored) (l : LiveEntry) (closed : RowState) → WaitKept facts opening past → RowsKept facts opening past → off past ≡ false → FinishAllowed facts opening past client entry state stored l closed → WaitKept facts opening (Event.Finish client entry state stored ∷ past)
-wait-finish facts opening past client entry state stored l closed k r o a =
+wait-finish : (basis : Basis) (past : List Event) (client entry : ℕ) (state : RowState) (stored : Stored) (l : LiveEntry) (closed : RowState) → WaitKept basis past → RowsKept basis past → off past ≡ false → FinishAllowed basis past client entry state stored l closed → WaitKept basis (Event.Finish client entry state stored ∷ past)
+wait-finish basis past client entry state stored l closed k r o a =
     let same : l.entry ≡ entry = eqb-true l.entry entry (find-passes (λ x. x.entry == entry) (live past) l a.live) in
-    let at : state_of (rows facts opening past) l.entry ≡ Some RowState.Begun = All-find (λ x. state_of (rows facts opening past) x.entry ≡ Some RowState.Begun) (λ x. x.entry == entry) (live past) l k.begun a.live in
-    let is : state_of (rows facts opening past) entry ≡ Some RowState.Begun = ap (state_of (rows facts opening past)) (sym same) ∙ at in
-    wait-asked facts opening past (Event.Finish client entry state stored) (fate_stored stored) (advance (time_of past) (known facts opening past) entry state) k (r.doubt_off o)
-    (λ u. only-waits 1 (rows facts opening past) entry RowState.Begun r.valid.entries is refl)
+    let at : state_of (rows basis past) l.entry ≡ Some RowState.Begun = All-find (λ x. state_of (rows basis past) x.entry ≡ Some RowState.Begun) (λ x. x.entry == entry) (live past) l k.begun a.live in
+    let is : state_of (rows basis past) entry ≡ Some RowState.Begun = ap (state_of (rows basis past)) (sym same) ∙ at in
+    wait-asked basis past (Event.Finish client entry state stored) (fate_stored stored) (advance (time_of past) (known basis past) entry state) k (r.doubt_off o)
+    (λ u. only-waits 1 (rows basis past) entry RowState.Begun r.valid.entries is refl)
     refl refl
     (All-filter _ _ (λ x. not (x.entry == entry)) (live past) k.begun
-    (λ x h n. state-by (fate_stored stored) entry state (reason_of (rows facts opening past) entry) (time_of past) (rows facts opening past) x.entry (apart x n) ∙ h))
+    (λ x h n. state-by (fate_stored stored) entry state (reason_of (rows basis past) entry) (time_of past) (rows basis past) x.entry (apart x n) ∙ h))
   where
     apart : (x : LiveEntry) → not (x.entry == entry) ≡ true → (entry == x.entry) ≡ false
     apart x n = eqb-other entry x.entry (λ s. let t : (x.entry == entry) ≡ true = eq-eqb x.entry entry (sym s) in let bad : false ≡ true = rw t at n in cc)
 
-wait-resume : (facts : Facts) (opening : List Row) (past : List Event) (client entry : ℕ) (fetched : Option FetchNote) (answer : ResumeAnswer) (stored : Stored) (row : Row) → WaitKept facts opening past → RowsKept facts opening past → off past ≡ false → ResumeAllowed facts opening past client entry fetched answer stored row → WaitKept facts opening (Event.Resume client entry fetched answer stored ∷ past)
-wait-resume facts opening past client entry fetched ResumeAnswer.Begun stored row k r o a =
-    wait-asked facts opening past (Event.Resume client entry fetched ResumeAnswer.Begun stored) (fate_stored stored) (advance (time_of past) (known facts opening past) entry RowState.Begun) k (r.doubt_off o)
-    (λ u. only-waits 1 (rows facts opening past) entry RowState.Pending r.valid.entries is refl)
+wait-resume : (basis : Basis) (past : List Event) (client entry : ℕ) (fetched : Option FetchNote) (answer : ResumeAnswer) (stored : Stored) (row : Row) → WaitKept basis past → RowsKept basis past → off past ≡ false → ResumeAllowed basis past client entry fetched answer stored row → WaitKept basis (Event.Resume client entry fetched answer stored ∷ past)
+wait-resume basis past client entry fetched ResumeAnswer.Begun stored row k r o a =
+    wait-asked basis past (Event.Resume client entry fetched ResumeAnswer.Begun stored) (fate_stored stored) (advance (time_of past) (known basis past) entry RowState.Begun) k (r.doubt_off o)
+    (λ u. only-waits 1 (rows basis past) entry RowState.Pending r.valid.entries is refl)
     refl refl
     (All-push _ (live past) (record { client = client; entry = entry; blocks = blocks_fetched_if fetched })
-    (All-both _ _ _ (live past) k.begun (unlike (rows facts opening past) entry RowState.Pending (live past) (λ e. cc) is k.begun)
-    (λ x h f. state-by (fate_stored stored) entry RowState.Begun (reason_of (rows facts opening past) entry) (time_of past) (rows facts opening past) x.entry f ∙ h))
-    (subst (λ (s : Stored). state_of (rows_by (fate_stored s) (Some (Change.Advance entry RowState.Begun (reason_of (rows facts opening past) entry) (time_of past))) (rows facts opening past)) entry ≡ Some RowState.Begun)
+    (All-both _ _ _ (live past) k.begun (unlike (rows basis past) entry RowState.Pending (live past) (λ e. cc) is k.begun)
+    (λ x h f. state-by (fate_stored stored) entry RowState.Begun (reason_of (rows basis past) entry) (time_of past) (rows basis past) x.entry f ∙ h))
+    (subst (λ (s : Stored). state_of (rows_by (fate_stored s) (Some (Change.Advance entry RowState.Begun (reason_of (rows basis past) entry) (time_of past))) (rows basis past)) entry ≡ Some RowState.Begun)
     (sym a.stored_is)
-    (state-made entry RowState.Begun (reason_of (rows facts opening past) entry) (time_of past) (rows facts opening past) RowState.Pending is)))
+    (state-made entry RowState.Begun (reason_of (rows basis past) entry) (time_of past) (rows basis past) RowState.Pending is)))
   where
-    is : state_of (rows facts opening past) entry ≡ Some RowState.Pending
+    is : state_of (rows basis past) entry ≡ Some RowState.Pending
     is = ap (option_map (λ x. x.state)) a.row_is ∙ ap Some a.pending
-wait-resume facts opening past client entry fetched (ResumeAnswer.Refused refusal) stored row k r o a =
+wait-resume basis past client entry fetched (ResumeAnswer.Refused refusal) stored row k r o a =
     by_test (is_keeper_fault refusal) _
-    (λ t. wait-advanced facts opening past event (fate_stored stored) entry RowState.Begun (reason_of (rows facts opening past) entry) (time_of past) k (r.doubt_off o)
-    (λ u. only-waits 1 (rows facts opening past) entry RowState.Pending r.valid.entries is refl)
+    (λ t. wait-advanced basis past event (fate_stored stored) entry RowState.Begun (reason_of (rows basis past) entry) (time_of past) k (r.doubt_off o)
+    (λ u. only-waits 1 (rows basis past) entry RowState.Pending r.valid.entries is refl)
     apart (rw t refl) (rw t refl) refl)
-    (λ t. wait-advanced facts opening past event (fate_stored stored) entry RowState.Failed (refusal_number refusal) (time_of past) k (r.doubt_off o)
+    (λ t. wait-advanced basis past event (fate_stored stored) entry RowState.Failed (refusal_number refusal) (time_of past) k (r.doubt_off o)
     (λ u. cc)
     apart (rw t refl) (rw t refl) refl)
   where
     event : Event
     event = Event.Resume client entry fetched (ResumeAnswer.Refused refusal) stored
 
-    is : state_of (rows facts opening past) entry ≡ Some RowState.Pending
+    is : state_of (rows basis past) entry ≡ Some RowState.Pending
     is = ap (option_map (λ x. x.state)) a.row_is ∙ ap Some a.pending
 
     apart : AllByRecursion (λ l. (entry == l.entry) ≡ false) (live past)
-    apart = unlike (rows facts opening past) entry RowState.Pending (live past) (λ e. cc) is k.begun
+    apart = unlike (rows basis past) entry RowState.Pending (live past) (λ e. cc) is k.begun
 
-wait-back : (facts : Facts) (opening : List Row) (past : List Event) (client : ℕ) (what : Back) → WaitKept facts opening past → WaitKept facts opening (Event.GiveBack client what ∷ past)
-wait-back facts opening past client (Back.Tag tag) k = wait-same facts opening past (Event.GiveBack client (Back.Tag tag)) k refl refl (λ P h. h)
-wait-back facts opening past client (Back.Pending entry) k = wait-same facts opening past (Event.GiveBack client (Back.Pending entry)) k refl refl (λ P h. h)
-wait-back facts opening past client (Back.Entry entry) k =
-    wait-same facts opening past (Event.GiveBack client (Back.Entry entry)) k refl refl (λ P h. All-filter P P _ (live past) h (λ x w _. w))
+wait-back : (basis : Basis) (past : List Event) (client : ℕ) (what : Back) → WaitKept basis past → WaitKept basis (Event.GiveBack client what ∷ past)
+wait-back basis past client (Back.Tag tag) k = wait-same basis past (Event.GiveBack client (Back.Tag tag)) k refl refl (λ P h. h)
+wait-back basis past client (Back.Pending entry) k = wait-same basis past (Event.GiveBack client (Back.Pending entry)) k refl refl (λ P h. h)
+wait-back basis past client (Back.Entry entry) k =
+    wait-same basis past (Event.GiveBack client (Back.Entry entry)) k refl refl (λ P h. All-filter P P _ (live past) h (λ x w _. w))
 
-wait-step : (c : Campaign) (opening : List Row) (past : List Event) (event : Event) → WaitKept c.facts opening past → RowsKept c.facts opening past → BootRuns past event → Allowed c opening past event → WaitKept c.facts opening (event ∷ past)
-wait-step c opening past (Event.Boot number time limit found boards) k r b a = wait-boot c.facts opening past number time limit found boards k
-wait-step c opening past (Event.Claim client request fetched answer) k r b a = wait-claim c.facts opening past client request fetched answer a.0 k r (b.on refl) a.1
-wait-step c opening past (Event.Schedule client request answer) k r b a = wait-schedule c.facts opening past client request answer k r (b.on refl) a
-wait-step c opening past (Event.Resume client entry fetched answer stored) k r b a = wait-resume c.facts opening past client entry fetched answer stored a.0 k r (b.on refl) a.1
-wait-step c opening past (Event.Finish client entry state stored) k r b a = wait-finish c.facts opening past client entry state stored a.0 a.1 k r (b.on refl) a.2
-wait-step c opening past (Event.Judge client entry version state stored) k r b a = wait-judge c.facts opening past client entry version state stored a.0 a.1 k r (b.on refl) a.2
-wait-step c opening past (Event.GiveBack client what) k r b a = wait-back c.facts opening past client what k
-wait-step c opening past event k r b a = wait-same c.facts opening past event k refl refl (λ P h. h)
+wait-step : (c : Campaign) (past : List Event) (event : Event) → WaitKept c.basis past → RowsKept c.basis past → BootRuns past event → Allowed c past event → WaitKept c.basis (event ∷ past)
+wait-step c past (Event.Boot number time limit found boards) k r b a = wait-boot c.basis past number time limit found boards k
+wait-step c past (Event.Claim client request fetched answer) k r b a = wait-claim c.basis past client request fetched answer a.0 k r (b.on refl) a.1
+wait-step c past (Event.Schedule client request answer) k r b a = wait-schedule c.basis past client request answer k r (b.on refl) a
+wait-step c past (Event.Resume client entry fetched answer stored) k r b a = wait-resume c.basis past client entry fetched answer stored a.0 k r (b.on refl) a.1
+wait-step c past (Event.Finish client entry state stored) k r b a = wait-finish c.basis past client entry state stored a.0 a.1 k r (b.on refl) a.2
+wait-step c past (Event.Judge client entry version state stored) k r b a = wait-judge c.basis past client entry version state stored a.0 a.1 k r (b.on refl) a.2
+wait-step c past (Event.GiveBack client what) k r b a = wait-back c.basis past client what k
+wait-step c past event k r b a = wait-same c.basis past event k refl refl (λ P h. h)
 
-pub wait-kept-on : (c : Campaign) (opening : List Row) (past : List Event) → IsHistory opening → IsLegalUnlimited c opening past → WaitKept c.facts opening past
-wait-kept-on c opening [] valid legal = record { once = waits-once opening valid.unsettled; doubt_once = tt; begun = tt }
-wait-kept-on c opening (event ∷ past) valid legal =
-    let k = past-kept-on c opening past valid legal.0 in
-    wait-step c opening past event (wait-kept-on c opening past valid legal.0) k.rows_kept legal.1 legal.2
+pub wait-kept-on : (c : Campaign) (past : List Event) → IsHistory c.basis.opening → IsLegalUnlimited c past → WaitKept c.basis past
+wait-kept-on c [] valid legal = record { once = waits-once c.basis.opening valid.unsettled; doubt_once = tt; begun = tt }
+wait-kept-on c (event ∷ past) valid legal =
+    let k = past-kept-on c past valid legal.0 in
+    wait-step c past event (wait-kept-on c past valid legal.0) k.rows_kept legal.1 legal.2
 
 -- The same of legal pasts.
-pub wait-kept : (c : Campaign) (opening : List Row) (past : List Event) → IsHistory opening → IsLegal c opening past → WaitKept c.facts opening past
-wait-kept c opening past valid legal = wait-kept-on c opening past valid (unlimited c opening past legal)
+pub wait-kept : (c : Campaign) (past : List Event) → IsHistory c.basis.opening → IsLegal c past → WaitKept c.basis past
+wait-kept c past valid legal = wait-kept-on c past valid (unlimited c past legal)

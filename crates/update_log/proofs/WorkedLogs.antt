@@ -25,10 +25,9 @@ use Rattle.update_log.specs.declared.answer.ClaimAnswer.{ClaimAnswer}
 use Rattle.update_log.specs.declared.answer.ResumeAnswer.{ResumeAnswer}
 use Rattle.update_log.specs.declared.decision.Stage.{Stage}
 use Rattle.update_log.specs.declared.refusal.FetchNote.{FetchNote}
-use Rattle.update_log.specs.declared.facts.Facts.{Facts}
 use Rattle.update_log.specs.declared.live.Held.{Held}
 use Rattle.update_log.specs.Pasts.{boots, is_counted, is_boot, off, limit_of, counted}
-use Rattle.update_log.specs.Known.{seen, target, views}
+use Rattle.update_log.specs.Known.{Basis, seen, target, views}
 use Rattle.update_log.specs.Verdicts.{verdict}
 use Rattle.update_log.specs.Steps.{judge}
 use Rattle.update_log.specs.Shows.{EndShows, FreshShows, HasRaw, HasMode, home_before, is_began}
@@ -81,28 +80,28 @@ pub same-mode : (raw other : ℕ) (mode other_mode : Mode) → Seen.Home raw mod
 same-mode raw other mode other_mode e = cc
 
 -- A board is shown as it was before, in runtime mode.
-fresh-same : (facts : Facts) (first : List Seen) (opening : List Row) (past : List Event) (board : ℕ) (marks : List Mark) (raw : ℕ) → home_before facts first opening past board ≡ Seen.Home raw Mode.Runtime → FreshShows facts first opening past board marks (Seen.Home raw Mode.Runtime)
-fresh-same facts first opening past board marks raw h =
+fresh-same : (basis : Basis) (first : List Seen) (past : List Event) (board : ℕ) (marks : List Mark) (raw : ℕ) → home_before basis first past board ≡ Seen.Home raw Mode.Runtime → FreshShows basis first past board marks (Seen.Home raw Mode.Runtime)
+fresh-same basis first past board marks raw h =
     record {
       raw = λ r m e. inl (subst (λ s. HasRaw s r) (sym h) (same-raw raw r Mode.Runtime m e));
       mode = λ r e. cc;
     }
 
 -- A board is gone.
-pub fresh-gone : (facts : Facts) (first : List Seen) (opening : List Row) (past : List Event) (board : ℕ) (marks : List Mark) → FreshShows facts first opening past board marks Seen.Gone
-fresh-gone facts first opening past board marks = record { raw = λ r m e. cc; mode = λ r e. cc }
+pub fresh-gone : (basis : Basis) (first : List Seen) (past : List Event) (board : ℕ) (marks : List Mark) → FreshShows basis first past board marks Seen.Gone
+fresh-gone basis first past board marks = record { raw = λ r m e. cc; mode = λ r e. cc }
 
 -- A write of it began, and it shows a bad image.
-fresh-torn : (facts : Facts) (first : List Seen) (opening : List Row) (past : List Event) (board : ℕ) (marks : List Mark) → list_any is_began marks ≡ true → FreshShows facts first opening past board marks torn
-fresh-torn facts first opening past board marks b =
+fresh-torn : (basis : Basis) (first : List Seen) (past : List Event) (board : ℕ) (marks : List Mark) → list_any is_began marks ≡ true → FreshShows basis first past board marks torn
+fresh-torn basis first past board marks b =
     record {
       raw = λ r m e. inr (inl (sym (same-raw 0 r Mode.Bootloader m e), rw b refl));
       mode = λ r e. sym (same-raw 0 r Mode.Bootloader Mode.Bootloader e);
     }
 
 -- A step that made no mark and went well shows the board as it was.
-end-same : (facts : Facts) (first : List Seen) (opening : List Row) (past : List Event) (board raw : ℕ) → home_before facts first opening past board ≡ Seen.Home raw Mode.Runtime → seen facts opening past board ≡ Seen.Home raw Mode.Runtime → EndShows facts first opening past board [] well (Seen.Home raw Mode.Runtime)
-end-same facts first opening past board raw h s =
+end-same : (basis : Basis) (first : List Seen) (past : List Event) (board raw : ℕ) → home_before basis first past board ≡ Seen.Home raw Mode.Runtime → seen basis past board ≡ Seen.Home raw Mode.Runtime → EndShows basis first past board [] well (Seen.Home raw Mode.Runtime)
+end-same basis first past board raw h s =
     record {
       stays = rw s refl;
       home = λ _. rw s refl;
@@ -115,7 +114,7 @@ end-same facts first opening past board raw h s =
 abbrev past1 : List Event
 past1 = plain_boot ∷ []
 
-boot-comes : IsLegal one_plan [] past1
+boot-comes : IsLegal one_plan past1
 boot-comes = (
   tt,
   takes-uncounted [] plain_boot refl (λ h. cc),
@@ -127,7 +126,7 @@ boot-comes = (
       time_is = refl;
       limit_is = refl;
       count = refl;
-      listed = each-of-one _ (shows 0 old []) (record { number = refl; presence = refl; untold = tt; shown = fresh-same _ _ _ _ _ _ _ refl });
+      listed = each-of-one _ (shows 0 old []) (record { number = refl; presence = refl; untold = tt; shown = fresh-same _ _ _ _ _ _ refl });
       found_is = tt;
     },
   ),
@@ -136,7 +135,7 @@ boot-comes = (
 abbrev past2 : List Event
 past2 = ask ∷ past1
 
-ask-comes : IsLegal one_plan [] past2
+ask-comes : IsLegal one_plan past2
 unfolding chosen first_unmet version_cmp sections
 ask-comes = (
   boot-comes,
@@ -147,7 +146,7 @@ ask-comes = (
 abbrev past3 : List Event
 past3 = claim ∷ past2
 
-claim-comes : IsLegal one_plan [] past3
+claim-comes : IsLegal one_plan past3
 unfolding chosen first_unmet version_cmp sections
 claim-comes = (
   ask-comes,
@@ -158,7 +157,7 @@ claim-comes = (
 abbrev past4 : List Event
 past4 = start Op.Prepare ∷ past3
 
-prepare-starts : Allowed one_plan [] past3 (start Op.Prepare)
+prepare-starts : Allowed one_plan past3 (start Op.Prepare)
 unfolding chosen first_unmet version_cmp sections
 prepare-starts = (_, record { live = refl; client_is = refl; closed = refl; next = refl })
 
@@ -169,27 +168,27 @@ on-board Fact f board t = subst Fact (eqb-true 0 board t) f
 abbrev past5 : List Event
 past5 = ended Op.Prepare [] old ∷ past4
 
-prepare-ends : Allowed one_plan [] past4 (ended Op.Prepare [] old)
+prepare-ends : Allowed one_plan past4 (ended Op.Prepare [] old)
 unfolding chosen first_unmet version_cmp sections
 prepare-ends =
     record {
       open_is = refl;
       told_is = tt;
       whole = tt;
-      shows = on-board _ (end-same _ _ _ _ 0 _ refl refl);
+      shows = on-board _ (end-same _ _ _ 0 _ refl refl);
     }
 
 abbrev past6 : List Event
 past6 = start Op.Write ∷ past5
 
-write-starts : Allowed one_plan [] past5 (start Op.Write)
+write-starts : Allowed one_plan past5 (start Op.Write)
 unfolding chosen first_unmet version_cmp sections
 write-starts = (_, record { live = refl; client_is = refl; closed = refl; next = refl })
 
 abbrev past7 : List Event
 past7 = ended Op.Write both_marks new ∷ past6
 
-new-shown : EndShows one_plan.facts one_plan.first [] past6 0 both_marks well new
+new-shown : EndShows one_plan.basis one_plan.first past6 0 both_marks well new
 unfolding chosen first_unmet version_cmp sections
 new-shown =
     record {
@@ -199,7 +198,7 @@ new-shown =
       mode = λ r m e. inl (same-mode _ r Mode.Runtime m e);
     }
 
-write-ends : Allowed one_plan [] past6 (ended Op.Write both_marks new)
+write-ends : Allowed one_plan past6 (ended Op.Write both_marks new)
 unfolding chosen first_unmet version_cmp sections
 write-ends =
     record {
@@ -212,37 +211,37 @@ write-ends =
 abbrev past8 : List Event
 past8 = start Op.Reload ∷ past7
 
-reload-starts : Allowed one_plan [] past7 (start Op.Reload)
+reload-starts : Allowed one_plan past7 (start Op.Reload)
 unfolding chosen first_unmet version_cmp sections
 reload-starts = (_, record { live = refl; client_is = refl; closed = refl; next = refl })
 
 abbrev past9 : List Event
 past9 = ended Op.Reload [] new ∷ past8
 
-reload-ends : Allowed one_plan [] past8 (ended Op.Reload [] new)
+reload-ends : Allowed one_plan past8 (ended Op.Reload [] new)
 unfolding chosen first_unmet version_cmp sections
 reload-ends =
-    record { open_is = refl; told_is = tt; whole = tt; shows = on-board _ (end-same _ _ _ _ 0 _ refl refl) }
+    record { open_is = refl; told_is = tt; whole = tt; shows = on-board _ (end-same _ _ _ 0 _ refl refl) }
 
 abbrev past10 : List Event
 past10 = start Op.Cleanup ∷ past9
 
-cleanup-starts : Allowed one_plan [] past9 (start Op.Cleanup)
+cleanup-starts : Allowed one_plan past9 (start Op.Cleanup)
 unfolding chosen first_unmet version_cmp sections
 cleanup-starts = (_, record { live = refl; client_is = refl; closed = refl; next = refl })
 
 abbrev past11 : List Event
 past11 = ended Op.Cleanup [] new ∷ past10
 
-cleanup-ends : Allowed one_plan [] past10 (ended Op.Cleanup [] new)
+cleanup-ends : Allowed one_plan past10 (ended Op.Cleanup [] new)
 unfolding chosen first_unmet version_cmp sections
 cleanup-ends =
-    record { open_is = refl; told_is = tt; whole = tt; shows = on-board _ (end-same _ _ _ _ 0 _ refl refl) }
+    record { open_is = refl; told_is = tt; whole = tt; shows = on-board _ (end-same _ _ _ 0 _ refl refl) }
 
 abbrev finish : Event
 finish = Event.Finish 1 1 RowState.Success Stored.Yes
 
-finish-comes : Allowed one_plan [] past11 finish
+finish-comes : Allowed one_plan past11 finish
 unfolding chosen first_unmet version_cmp sections
 finish-comes = (
   _,
@@ -261,14 +260,14 @@ finish-comes = (
 pub install-legal : InstallIsLegal
 unfolding chosen first_unmet version_cmp sections
 install-legal =
-    let p4 : IsLegal one_plan [] past4 = (claim-comes, takes-on past3 (start Op.Prepare) (omega arith) refl refl, prepare-starts) in
-    let p5 : IsLegal one_plan [] past5 = (p4, takes-on past4 (ended Op.Prepare [] old) (omega arith) refl refl, prepare-ends) in
-    let p6 : IsLegal one_plan [] past6 = (p5, takes-on past5 (start Op.Write) (omega arith) refl refl, write-starts) in
-    let p7 : IsLegal one_plan [] past7 = (p6, takes-on past6 (ended Op.Write both_marks new) (omega arith) refl refl, write-ends) in
-    let p8 : IsLegal one_plan [] past8 = (p7, takes-on past7 (start Op.Reload) (omega arith) refl refl, reload-starts) in
-    let p9 : IsLegal one_plan [] past9 = (p8, takes-on past8 (ended Op.Reload [] new) (omega arith) refl refl, reload-ends) in
-    let p10 : IsLegal one_plan [] past10 = (p9, takes-on past9 (start Op.Cleanup) (omega arith) refl refl, cleanup-starts) in
-    let p11 : IsLegal one_plan [] past11 = (p10, takes-on past10 (ended Op.Cleanup [] new) (omega arith) refl refl, cleanup-ends) in
+    let p4 : IsLegal one_plan past4 = (claim-comes, takes-on past3 (start Op.Prepare) (omega arith) refl refl, prepare-starts) in
+    let p5 : IsLegal one_plan past5 = (p4, takes-on past4 (ended Op.Prepare [] old) (omega arith) refl refl, prepare-ends) in
+    let p6 : IsLegal one_plan past6 = (p5, takes-on past5 (start Op.Write) (omega arith) refl refl, write-starts) in
+    let p7 : IsLegal one_plan past7 = (p6, takes-on past6 (ended Op.Write both_marks new) (omega arith) refl refl, write-ends) in
+    let p8 : IsLegal one_plan past8 = (p7, takes-on past7 (start Op.Reload) (omega arith) refl refl, reload-starts) in
+    let p9 : IsLegal one_plan past9 = (p8, takes-on past8 (ended Op.Reload [] new) (omega arith) refl refl, reload-ends) in
+    let p10 : IsLegal one_plan past10 = (p9, takes-on past9 (start Op.Cleanup) (omega arith) refl refl, cleanup-starts) in
+    let p11 : IsLegal one_plan past11 = (p10, takes-on past10 (ended Op.Cleanup [] new) (omega arith) refl refl, cleanup-ends) in
     (p11, takes-on past11 finish (omega arith) refl refl, finish-comes)
 
 -- ---- a torn write
@@ -297,7 +296,7 @@ second_boot = Event.Boot 2 2000 None Found.Plain (shows 0 torn (Mark.Began 1 ∷
 abbrev torn9 : List Event
 torn9 = second_boot ∷ torn8
 
-cut_boot-comes : IsLegal two_plans [] torn1
+cut_boot-comes : IsLegal two_plans torn1
 cut_boot-comes = (
   tt,
   takes-uncounted [] cut_boot refl (λ h. cc),
@@ -309,40 +308,40 @@ cut_boot-comes = (
       time_is = refl;
       limit_is = refl;
       count = refl;
-      listed = each-of-one _ (shows 0 old []) (record { number = refl; presence = refl; untold = tt; shown = fresh-same _ _ _ _ _ _ _ refl });
+      listed = each-of-one _ (shows 0 old []) (record { number = refl; presence = refl; untold = tt; shown = fresh-same _ _ _ _ _ _ refl });
       found_is = tt;
     },
   ),
 )
 
-torn-ask : Allowed two_plans [] torn1 ask
+torn-ask : Allowed two_plans torn1 ask
 unfolding chosen first_unmet version_cmp sections
 torn-ask = record { free = record { hold = refl; live = refl }; pending_is = tt; answer_is = rw old-text refl }
 
-torn-claim : Allowed two_plans [] (ask ∷ torn1) claim
+torn-claim : Allowed two_plans (ask ∷ torn1) claim
 unfolding chosen first_unmet version_cmp sections
 torn-claim = (_, record { held_is = refl; request_is = refl; pending = refl; answer_is = rw old-text (inl refl) })
 
-torn-prepare : Allowed two_plans [] torn3 (start Op.Prepare)
+torn-prepare : Allowed two_plans torn3 (start Op.Prepare)
 unfolding chosen first_unmet version_cmp sections
 torn-prepare = (_, record { live = refl; client_is = refl; closed = refl; next = refl })
 
-torn-prepared : Allowed two_plans [] (start Op.Prepare ∷ torn3) (ended Op.Prepare [] old)
+torn-prepared : Allowed two_plans (start Op.Prepare ∷ torn3) (ended Op.Prepare [] old)
 unfolding chosen first_unmet version_cmp sections
 torn-prepared =
-    record { open_is = refl; told_is = tt; whole = tt; shows = on-board _ (end-same _ _ _ _ 0 _ refl refl) }
+    record { open_is = refl; told_is = tt; whole = tt; shows = on-board _ (end-same _ _ _ 0 _ refl refl) }
 
-torn-write : Allowed two_plans [] torn5 (start Op.Write)
+torn-write : Allowed two_plans torn5 (start Op.Write)
 unfolding chosen first_unmet version_cmp sections
 torn-write = (_, record { live = refl; client_is = refl; closed = refl; next = refl })
 
-torn-cut : Allowed two_plans [] torn6 Event.Cut
+torn-cut : Allowed two_plans torn6 Event.Cut
 torn-cut = record { on = refl; full = refl }
 
-torn-back : Allowed two_plans [] (Event.Cut ∷ torn6) (Event.GiveBack 1 (Back.Entry 1))
+torn-back : Allowed two_plans (Event.Cut ∷ torn6) (Event.GiveBack 1 (Back.Entry 1))
 torn-back = (_, refl, refl, refl)
 
-torn-boot : Allowed two_plans [] torn8 second_boot
+torn-boot : Allowed two_plans torn8 second_boot
 unfolding chosen first_unmet version_cmp sections
 torn-boot = (
   _,
@@ -352,25 +351,25 @@ torn-boot = (
     time_is = refl;
     limit_is = refl;
     count = refl;
-    listed = each-of-one _ (shows 0 torn (Mark.Began 1 ∷ [])) (record { number = refl; presence = refl; untold = (refl, tt); shown = fresh-torn _ _ _ _ _ _ refl });
+    listed = each-of-one _ (shows 0 torn (Mark.Began 1 ∷ [])) (record { number = refl; presence = refl; untold = (refl, tt); shown = fresh-torn _ _ _ _ _ refl });
     found_is = tt;
   },
 )
 
-pub cut_write-legal : IsLegal two_plans [] torn9
+pub cut_write-legal : IsLegal two_plans torn9
 cut_write-legal =
     let below : (past : List Event) (event : Event) → 0 < boots past → off past ≡ false → limit_of past ≡ Some 5 → counted past < 5 → BootTakes past event =
     λ past event b o l c. takes-below past event 5 b o l c in
-    let p2 : IsLegal two_plans [] (ask ∷ torn1) = (cut_boot-comes, below torn1 ask (omega arith) refl refl (omega arith), torn-ask) in
-    let p3 : IsLegal two_plans [] torn3 = (p2, below (ask ∷ torn1) claim (omega arith) refl refl (omega arith), torn-claim) in
-    let p4 : IsLegal two_plans [] (start Op.Prepare ∷ torn3) = (p3, below torn3 (start Op.Prepare) (omega arith) refl refl (omega arith), torn-prepare) in
-    let p5 : IsLegal two_plans [] torn5 = (p4, below (start Op.Prepare ∷ torn3) (ended Op.Prepare [] old) (omega arith) refl refl (omega arith), torn-prepared) in
-    let p6 : IsLegal two_plans [] torn6 = (p5, below torn5 (start Op.Write) (omega arith) refl refl (omega arith), torn-write) in
-    let p7 : IsLegal two_plans [] (Event.Cut ∷ torn6) = (p6, takes-uncounted torn6 Event.Cut refl (λ _. omega arith), torn-cut) in
-    let p8 : IsLegal two_plans [] torn8 = (p7, takes-uncounted (Event.Cut ∷ torn6) (Event.GiveBack 1 (Back.Entry 1)) refl (λ _. omega arith), torn-back) in
+    let p2 : IsLegal two_plans (ask ∷ torn1) = (cut_boot-comes, below torn1 ask (omega arith) refl refl (omega arith), torn-ask) in
+    let p3 : IsLegal two_plans torn3 = (p2, below (ask ∷ torn1) claim (omega arith) refl refl (omega arith), torn-claim) in
+    let p4 : IsLegal two_plans (start Op.Prepare ∷ torn3) = (p3, below torn3 (start Op.Prepare) (omega arith) refl refl (omega arith), torn-prepare) in
+    let p5 : IsLegal two_plans torn5 = (p4, below (start Op.Prepare ∷ torn3) (ended Op.Prepare [] old) (omega arith) refl refl (omega arith), torn-prepared) in
+    let p6 : IsLegal two_plans torn6 = (p5, below torn5 (start Op.Write) (omega arith) refl refl (omega arith), torn-write) in
+    let p7 : IsLegal two_plans (Event.Cut ∷ torn6) = (p6, takes-uncounted torn6 Event.Cut refl (λ _. omega arith), torn-cut) in
+    let p8 : IsLegal two_plans torn8 = (p7, takes-uncounted (Event.Cut ∷ torn6) (Event.GiveBack 1 (Back.Entry 1)) refl (λ _. omega arith), torn-back) in
     (p8, takes-uncounted torn8 second_boot refl (λ h. cc), torn-boot)
 
-judge-comes : Allowed two_plans [] torn9 (judged RowState.Failed)
+judge-comes : Allowed two_plans torn9 (judged RowState.Failed)
 unfolding chosen first_unmet version_cmp sections
 judge-comes = (
   _,
@@ -418,7 +417,7 @@ off3 = absent_boot ∷ off2
 abbrev off4 : List Event
 off4 = ask_row ∷ off3
 
-first_boot-comes : Allowed two_boards [] [] first_boot
+first_boot-comes : Allowed two_boards [] first_boot
 first_boot-comes = (
   _,
   record {
@@ -428,17 +427,17 @@ first_boot-comes = (
     limit_is = refl;
     count = refl;
     listed = each-of-two _ (shows 0 old []) (shows 1 old [])
-        (record { number = refl; presence = refl; untold = tt; shown = fresh-same _ _ _ _ _ _ _ refl })
-        (record { number = refl; presence = refl; untold = tt; shown = fresh-same _ _ _ _ _ _ _ refl });
+        (record { number = refl; presence = refl; untold = tt; shown = fresh-same _ _ _ _ _ _ refl })
+        (record { number = refl; presence = refl; untold = tt; shown = fresh-same _ _ _ _ _ _ refl });
     found_is = tt;
   },
 )
 
-schedule-comes : Allowed two_boards [] off1 schedule
+schedule-comes : Allowed two_boards off1 schedule
 unfolding chosen first_unmet version_cmp sections
 schedule-comes = record { free = record { hold = refl; live = refl }; answer_is = rw old-text (inl refl) }
 
-absent_boot-comes : Allowed two_boards [] off2 absent_boot
+absent_boot-comes : Allowed two_boards off2 absent_boot
 absent_boot-comes = (
   _,
   record {
@@ -448,13 +447,13 @@ absent_boot-comes = (
     limit_is = refl;
     count = refl;
     listed = each-of-two _ (shows 0 old []) (shows 1 Seen.Gone [])
-        (record { number = refl; presence = refl; untold = tt; shown = fresh-same _ _ _ _ _ _ _ refl })
-        (record { number = refl; presence = refl; untold = tt; shown = fresh-gone _ _ _ _ _ _ });
+        (record { number = refl; presence = refl; untold = tt; shown = fresh-same _ _ _ _ _ _ refl })
+        (record { number = refl; presence = refl; untold = tt; shown = fresh-gone _ _ _ _ _ });
     found_is = tt;
   },
 )
 
-ask_row-comes : Allowed two_boards [] off3 ask_row
+ask_row-comes : Allowed two_boards off3 ask_row
 unfolding chosen first_unmet version_cmp sections
 ask_row-comes =
     record {
@@ -463,7 +462,7 @@ ask_row-comes =
       answer_is = rw old-text refl;
     }
 
-resume-comes : Allowed two_boards [] off4 resume
+resume-comes : Allowed two_boards off4 resume
 unfolding chosen first_unmet version_cmp sections
 resume-comes = (
   _,
@@ -478,10 +477,10 @@ resume-comes = (
 
 pub offline-legal : OfflineInstallIsLegal
 offline-legal =
-    let p1 : IsLegal two_boards [] off1 = (tt, takes-uncounted [] first_boot refl (λ h. cc), first_boot-comes) in
-    let p2 : IsLegal two_boards [] off2 = (p1, takes-on off1 schedule (omega arith) refl refl, schedule-comes) in
-    let p3 : IsLegal two_boards [] off3 = (p2, takes-uncounted off2 absent_boot refl (λ h. cc), absent_boot-comes) in
-    let p4 : IsLegal two_boards [] off4 = (p3, takes-on off3 ask_row (omega arith) refl refl, ask_row-comes) in
+    let p1 : IsLegal two_boards off1 = (tt, takes-uncounted [] first_boot refl (λ h. cc), first_boot-comes) in
+    let p2 : IsLegal two_boards off2 = (p1, takes-on off1 schedule (omega arith) refl refl, schedule-comes) in
+    let p3 : IsLegal two_boards off3 = (p2, takes-uncounted off2 absent_boot refl (λ h. cc), absent_boot-comes) in
+    let p4 : IsLegal two_boards off4 = (p3, takes-on off3 ask_row (omega arith) refl refl, ask_row-comes) in
     (p4, takes-on off4 resume (omega arith) refl refl, resume-comes)
 
 -- ---- logs that break one rule
@@ -492,7 +491,7 @@ unfolding chosen first_unmet version_cmp sections
 unhashed-not legal =
     let (held, a) = legal.2 in
     let same = same_Some _ held a.held_is in
-    let answer = subst (λ (h : Held). ClaimAnswered (FetchNote.Whole other_digest 14 0x01010000) (target one_plan.facts (views one_plan.facts [] past2) request) (next_entry one_plan.facts [] past2) (verdict one_plan.facts [] past2 1 request (Stage.Claim h.release)) (ClaimAnswer.Entry 1)) (sym same) a.answer_is in
+    let answer = subst (λ (h : Held). ClaimAnswered (FetchNote.Whole other_digest 14 0x01010000) (target one_plan.basis.facts (views one_plan.basis past2) request) (next_entry one_plan.basis past2) (verdict one_plan.basis past2 1 request (Stage.Claim h.release)) (ClaimAnswer.Entry 1)) (sym same) a.answer_is in
     let computed : ClaimAnswer.Entry 1 ≡ ClaimAnswer.Refused _ = rw old-text at answer in cc
 
 -- The entry isn't live after the restart, so none of its steps may start.

@@ -2,7 +2,6 @@
 use Rattle.std.specs.Prelude.{◌≡◌, ◌⊎◌, ℕ, ◌+◌, IsTrue, List, [], ◌∷◌, ◌++◌, length, Option, Some, None, if◌then◌else◌, slice_get}
 use Rattle.fw_facts.specs.Views.{is_home}
 use Rattle.fw_facts.specs.declared.seen.Seen.{Seen}
-use Rattle.history_keeper.specs.declared.row.Row.{Row}
 use Rattle.update_log.specs.declared.event.Event.{Event}
 use Rattle.update_log.specs.declared.event.Found.{Found}
 use Rattle.update_log.specs.declared.event.Stored.{Stored}
@@ -11,9 +10,8 @@ use Rattle.update_log.specs.declared.answer.ClaimAnswer.{ClaimAnswer}
 use Rattle.update_log.specs.declared.answer.ResumeAnswer.{ResumeAnswer}
 use Rattle.update_log.specs.declared.refusal.Refusal.{Refusal}
 use Rattle.update_log.specs.declared.facts.BootPlan.{BootPlan}
-use Rattle.update_log.specs.declared.facts.Facts.{Facts}
 use Rattle.update_log.specs.Pasts.{past_of, boots}
-use Rattle.update_log.specs.Known.{doubt}
+use Rattle.update_log.specs.Known.{Basis, doubt}
 use Rattle.update_log.specs.Shows.{Campaign, told, FreshShows}
 use Rattle.update_log.specs.Legal.{FoundAllowed, is_gone, is_absent}
 use Rattle.update_log.specs.Once.{JournalAndView}
@@ -54,17 +52,17 @@ NextCampaign c past plan after =
 
 -- What a boot may list of a board whose journal is this: it tells the journal's tail, and shows the
 -- board gone where the plan says so, else home with what it may show.
-pub record TailListed (facts : Facts) (first : List Seen) (opening : List Row) (past : List Event) (plan : BootPlan) (board : ℕ) (b : BoardSeen) (s : JournalAndView) : Type 0 where
+pub record TailListed (basis : Basis) (first : List Seen) (past : List Event) (plan : BootPlan) (board : ℕ) (b : BoardSeen) (s : JournalAndView) : Type 0 where
   pub number : b.board ≡ board
   pub presence : IsTrue (if is_absent plan board then is_gone b.seen else is_home b.seen)
-  pub tail : s.journal ≡ told facts opening past board ++ b.untold
-  pub shown : FreshShows facts first opening past board b.untold b.seen
+  pub tail : s.journal ≡ told basis past board ++ b.untold
+  pub shown : FreshShows basis first past board b.untold b.seen
 
 -- A boot by that plan over those boards: it lists each of them, and finds what the doubt lets it find.
-pub record IsNextBoot (facts : Facts) (first : List Seen) (opening : List Row) (past : List Event) (plan : BootPlan) (states : List JournalAndView) (found : Found) (boards : List BoardSeen) : Type 0 where
-  pub count : length boards ≡ length facts.sheets
-  pub listed : (board : ℕ) (b : BoardSeen) (s : JournalAndView) → slice_get boards board ≡ Some b → slice_get states board ≡ Some s → TailListed facts first opening past plan board b s
-  pub found_is : FoundAllowed found (doubt facts opening past)
+pub record IsNextBoot (basis : Basis) (first : List Seen) (past : List Event) (plan : BootPlan) (states : List JournalAndView) (found : Found) (boards : List BoardSeen) : Type 0 where
+  pub count : length boards ≡ length basis.facts.sheets
+  pub listed : (board : ℕ) (b : BoardSeen) (s : JournalAndView) → slice_get boards board ≡ Some b → slice_get states board ≡ Some s → TailListed basis first past plan board b s
+  pub found_is : FoundAllowed found (doubt basis past)
 
 -- That boot.
 abbrev pub next_boot : List Event → BootPlan → Found → List BoardSeen → Event

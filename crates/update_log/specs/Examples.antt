@@ -35,6 +35,7 @@ use Rattle.update_log.specs.declared.facts.Facts.{Facts}
 use Rattle.update_log.specs.declared.facts.BootPlan.{BootPlan}
 use Rattle.update_log.specs.Shows.{Campaign}
 use Rattle.update_log.specs.Legal.{Legal}
+use Rattle.update_log.specs.Known.{basis_of}
 
 -- What is fixed.
 
@@ -129,7 +130,7 @@ torn = Seen.Home 0 Mode.Bootloader
 
 abbrev pub one_board : List BootPlan → Campaign
 one_board plans =
-    record { facts = facts [] (sheet (codes "usb1") device_one guid_one ∷ []); first = old ∷ []; plans = plans }
+    record { basis = basis_of (facts [] (sheet (codes "usb1") device_one guid_one ∷ [])) []; first = old ∷ []; plans = plans }
 
 -- A whole install.
 
@@ -180,7 +181,7 @@ install =
     ∷ Event.Finish 1 1 RowState.Success Stored.Yes ∷ []
 
 abbrev pub InstallIsLegal : Type 0
-InstallIsLegal = Legal one_plan [] install
+InstallIsLegal = Legal one_plan install
 
 -- A torn write: the power is cut after five counted events, in the midst of the write. The next boot
 -- tells that the write began, and the row is judged by the version that the board shows then.
@@ -205,7 +206,7 @@ abbrev pub torn_write : List Event
 torn_write = cut_write ++ judged RowState.Failed ∷ []
 
 abbrev pub TornWriteIsLegal : Type 0
-TornWriteIsLegal = Legal two_plans [] torn_write
+TornWriteIsLegal = Legal two_plans torn_write
 
 -- An offline install whose release requires another device: at the next boot that one is absent, so
 -- the request is refused, and its row has failed for that reason.
@@ -213,9 +214,11 @@ TornWriteIsLegal = Legal two_plans [] torn_write
 abbrev pub two_boards : Campaign
 two_boards =
     record {
-      facts =
-          facts (Requirement.Device guid_two None ∷ [])
-          (sheet (codes "usb1") device_one guid_one ∷ sheet (codes "usb2") device_two guid_two ∷ []);
+      basis =
+          basis_of
+          (facts (Requirement.Device guid_two None ∷ [])
+          (sheet (codes "usb1") device_one guid_one ∷ sheet (codes "usb2") device_two guid_two ∷ []))
+          [];
       first = old ∷ old ∷ [];
       plans =
           record { time = 1000; limit = None; absent = [] } ∷ record { time = 2000; limit = None; absent = 1 ∷ [] } ∷ [];
@@ -245,7 +248,7 @@ offline_install =
     ∷ Event.Resume 0 1 None (ResumeAnswer.Refused no_device) Stored.Yes ∷ []
 
 abbrev pub OfflineInstallIsLegal : Type 0
-OfflineInstallIsLegal = Legal two_boards [] offline_install
+OfflineInstallIsLegal = Legal two_boards offline_install
 
 -- Logs that break one rule.
 
@@ -254,18 +257,18 @@ abbrev pub unhashed : List Event
 unhashed = plain_boot ∷ ask ∷ Event.Claim 1 request (FetchNote.Whole other_digest 14 0x01010000) (ClaimAnswer.Entry 1) ∷ []
 
 abbrev pub UnhashedIsNot : Type 0
-UnhashedIsNot = Legal one_plan [] unhashed → ⊥
+UnhashedIsNot = Legal one_plan unhashed → ⊥
 
 -- After a restart an entry goes on that was begun before it.
 abbrev pub gone_on : List Event
 gone_on = cut_write ++ start Op.Write ∷ []
 
 abbrev pub GoneOnIsNot : Type 0
-GoneOnIsNot = Legal two_plans [] gone_on → ⊥
+GoneOnIsNot = Legal two_plans gone_on → ⊥
 
 -- The torn write is judged a success.
 abbrev pub trusted : List Event
 trusted = cut_write ++ judged RowState.Success ∷ []
 
 abbrev pub TrustedIsNot : Type 0
-TrustedIsNot = Legal two_plans [] trusted → ⊥
+TrustedIsNot = Legal two_plans trusted → ⊥

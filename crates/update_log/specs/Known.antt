@@ -30,6 +30,14 @@ use Rattle.update_log.specs.Pasts.{time_of, is_keeper_fault}
 use Rattle.update_log.specs.Holding.{live}
 use Rattle.update_log.specs.Boards.{Board, devices, board_at, board_with}
 
+-- What a log stands on: the facts, and the rows before it.
+pub record Basis : Type 0 where
+  pub facts : Facts
+  pub opening : List Row
+
+abbrev pub basis_of : Facts → List Row → Basis
+basis_of facts opening = record { facts = facts; opening = opening }
+
 -- The rows, what each board shows, and the change of which nobody knows whether it was stored.
 pub record Known : Type 0 where
   pub rows : List Row
@@ -268,22 +276,22 @@ abbrev pub at_first : List Row → Known
 at_first opening = record { rows = opening; shown = λ board. Seen.Gone; doubt = None }
 
 -- What a past says, over the rows before it.
-abbrev pub known : Facts → List Row → List Event → Known
-known facts opening [] = at_first opening
-known facts opening (event ∷ past) = known_after facts (time_of past) (live past) (known facts opening past) event
+abbrev pub known : Basis → List Event → Known
+known basis [] = at_first basis.opening
+known basis (event ∷ past) = known_after basis.facts (time_of past) (live past) (known basis past) event
 
 -- The rows.
-abbrev pub rows : Facts → List Row → List Event → List Row
-rows facts opening past = (known facts opening past).rows
+abbrev pub rows : Basis → List Event → List Row
+rows basis past = (known basis past).rows
 
 -- What a board shows: what the last event says that tells of it.
-abbrev pub seen : Facts → List Row → List Event → ℕ → Seen
-seen facts opening past board = (known facts opening past).shown board
+abbrev pub seen : Basis → List Event → ℕ → Seen
+seen basis past board = (known basis past).shown board
 
 -- The change in doubt.
-abbrev pub doubt : Facts → List Row → List Event → Option Change
-doubt facts opening past = (known facts opening past).doubt
+abbrev pub doubt : Basis → List Event → Option Change
+doubt basis past = (known basis past).doubt
 
 -- The devices as they stand.
-abbrev pub views : Facts → List Row → List Event → List DeviceView
-views facts opening past = views_in facts (live past) (known facts opening past)
+abbrev pub views : Basis → List Event → List DeviceView
+views basis past = views_in basis.facts (live past) (known basis past)

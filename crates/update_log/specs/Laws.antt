@@ -20,8 +20,8 @@ use Rattle.update_log.specs.Crashes.{CrashOf, NextCampaign, IsNextBoot, next_boo
 -- log is legal and the boards fit it, then they were written once.
 abbrev pub AtMostOnce : Type 0
 AtMostOnce =
-    (c : Campaign) (opening : List Row) (log : List Event) (boards : List JournalAndView)
-    → IsHistory opening → Legal c opening log → Fits c opening log boards → Once c opening log boards
+    (c : Campaign) (log : List Event) (boards : List JournalAndView)
+    → IsHistory c.basis.opening → Legal c log → Fits c log boards → Once c log boards
 
 -- The log with the next boot at its end.
 abbrev pub rebooted : List Event → BootPlan → Found → List BoardSeen → List Event
@@ -29,40 +29,40 @@ rebooted log plan found boards = log ++ next_boot (past_of log) plan found board
 
 -- What holds of a log that a crash left: it is legal, and so is the next boot over any boards that
 -- fit the log, whatever it finds and shows, and those boards were written once.
-pub record IsSafeCrash (c : Campaign) (opening : List Row) (crashed : List Event) : Type 0 where
-  pub legal : Legal c opening crashed
+pub record IsSafeCrash (c : Campaign) (crashed : List Event) : Type 0 where
+  pub legal : Legal c crashed
   pub boots : (states : List JournalAndView) (plan : BootPlan) (after : Campaign) (found : Found) (boards : List BoardSeen)
-      → Fits c opening crashed states → NextCampaign c (past_of crashed) plan after
-      → IsNextBoot c.facts c.first opening (past_of crashed) plan states found boards
-      → Legal after opening (rebooted crashed plan found boards) × Once after opening (rebooted crashed plan found boards) states
+      → Fits c crashed states → NextCampaign c (past_of crashed) plan after
+      → IsNextBoot c.basis c.first (past_of crashed) plan states found boards
+      → Legal after (rebooted crashed plan found boards) × Once after (rebooted crashed plan found boards) states
 
 -- At most once after crashes: so is every log that a crash may leave of a legal one.
 abbrev pub AtMostOnceAfterCrashes : Type 0
 AtMostOnceAfterCrashes =
-    (c : Campaign) (opening : List Row) (log : List Event) (crashed : List Event)
-    → IsHistory opening → Legal c opening log → CrashOf log crashed → IsSafeCrash c opening crashed
+    (c : Campaign) (log : List Event) (crashed : List Event)
+    → IsHistory c.basis.opening → Legal c log → CrashOf log crashed → IsSafeCrash c crashed
 
 -- Taken once: over any number of boots no tag has two rows, and no entry is taken twice.
 abbrev pub TakenOnce : Type 0
 TakenOnce =
-    (c : Campaign) (opening : List Row) (log : List Event)
-    → IsHistory opening → Legal c opening log → IsTakenOnce c.facts opening (past_of log)
+    (c : Campaign) (log : List Event)
+    → IsHistory c.basis.opening → Legal c log → IsTakenOnce c.basis (past_of log)
 
 -- Over any number of boots the rows are a valid history: so no device has two rows that wait for their
 -- end, and each retry is of an earlier failed row of its device that no other one is of, whatever was
 -- committed, lost or found in doubt.
 abbrev pub HistoryStays : Type 0
 HistoryStays =
-    (c : Campaign) (opening : List Row) (log : List Event)
-    → IsHistory opening → Legal c opening log → IsHistory (rows c.facts opening (past_of log))
+    (c : Campaign) (log : List Event)
+    → IsHistory c.basis.opening → Legal c log → IsHistory (rows c.basis (past_of log))
 
 -- A failed row stays failed: whatever comes behind a log, a row that has failed in it stays as it is.
 abbrev pub FailedStays : Type 0
 FailedStays =
-    (c : Campaign) (opening : List Row) (log later : List Event) (entry : ℕ) (row : Row)
-    → IsHistory opening → Legal c opening (log ++ later)
-    → row_of (rows c.facts opening (past_of log)) entry ≡ Some row → row.state ≡ RowState.Failed
-    → row_of (rows c.facts opening (past_of (log ++ later))) entry ≡ Some row
+    (c : Campaign) (log later : List Event) (entry : ℕ) (row : Row)
+    → IsHistory c.basis.opening → Legal c (log ++ later)
+    → row_of (rows c.basis (past_of log)) entry ≡ Some row → row.state ≡ RowState.Failed
+    → row_of (rows c.basis (past_of (log ++ later))) entry ≡ Some row
 
 -- The priority rule leaves one device for each ID, whatever the facts.
 abbrev pub OneDeviceAnID : Type 0

@@ -27,7 +27,6 @@ use Rattle.update_log.specs.declared.refusal.FetchNote.{FetchNote}
 use Rattle.update_log.specs.declared.refusal.Refusal.{Refusal}
 use Rattle.update_log.specs.declared.request.Request.{Request}
 use Rattle.update_log.specs.declared.request.InstallFlags.{InstallFlags}
-use Rattle.update_log.specs.declared.facts.Facts.{Facts}
 use Rattle.update_log.specs.declared.facts.BootPlan.{BootPlan}
 use Rattle.update_log.specs.declared.decision.Decision.{Decision}
 use Rattle.update_log.specs.declared.decision.Stage.{Stage}
@@ -37,20 +36,20 @@ use Rattle.update_log.specs.declared.live.OpenStep.{OpenStep}
 use Rattle.release_catalogue.specs.Lookup.{Chosen}
 use Rattle.update_log.specs.Pasts.{past_of, is_boot, is_counted, boots, counted, limit_of, off, last_of, finished}
 use Rattle.update_log.specs.Holding.{live, live_entry, is_live, hold, open_steps, step_open}
-use Rattle.update_log.specs.Known.{Target, target, row_of, is_board_of, board_found, known, rows, seen, doubt, views}
+use Rattle.update_log.specs.Known.{Basis, Target, target, row_of, is_board_of, board_found, known, rows, doubt, views}
 use Rattle.update_log.specs.Verdicts.{verdict}
 use Rattle.update_log.specs.Steps.{next_op, judge, closing, view_of_row}
-use Rattle.update_log.specs.Shows.{Campaign, marks, digest_of, IsPrefix, EndShows, FreshShows}
+use Rattle.update_log.specs.Shows.{Campaign, campaign_on, marks, digest_of, IsPrefix, EndShows, FreshShows}
 
 -- The step that is open on a board.
-abbrev pub open_on : Facts → List Row → List Event → ℕ → Option OpenStep
-open_on facts opening past board = find (λ s. is_board_of facts (rows facts opening past) s.entry board) (open_steps past)
+abbrev pub open_on : Basis → List Event → ℕ → Option OpenStep
+open_on basis past board = find (λ s. is_board_of basis.facts (rows basis past) s.entry board) (open_steps past)
 
 -- Its marks, and none where no step is open.
-abbrev pub open_marks : Facts → List Row → List Event → ℕ → List Mark
-open_marks facts opening past board =
+abbrev pub open_marks : Basis → List Event → ℕ → List Mark
+open_marks basis past board =
     unwrap_or
-    (option_map (λ s. marks s.op s.entry (digest_of (rows facts opening past) s.entry)) (open_on facts opening past board))
+    (option_map (λ s. marks s.op s.entry (digest_of (rows basis past) s.entry)) (open_on basis past board))
     []
 
 -- Boot.
@@ -76,21 +75,21 @@ is_absent plan board = list_any (λ a. a == board) plan.absent
 
 -- A boot lists a board under its number: gone where the plan says so, else home. Its untold marks
 -- begin those of the step that was open on it, and what it shows is allowed.
-pub record BoardListed (facts : Facts) (first : List Seen) (opening : List Row) (past : List Event) (plan : BootPlan) (board : ℕ) (b : BoardSeen) : Type 0 where
+pub record BoardListed (basis : Basis) (first : List Seen) (past : List Event) (plan : BootPlan) (board : ℕ) (b : BoardSeen) : Type 0 where
   pub number : b.board ≡ board
   pub presence : IsTrue (if is_absent plan board then is_gone b.seen else is_home b.seen)
-  pub untold : IsPrefix b.untold (open_marks facts opening past board)
-  pub shown : FreshShows facts first opening past board b.untold b.seen
+  pub untold : IsPrefix b.untold (open_marks basis past board)
+  pub shown : FreshShows basis first past board b.untold b.seen
 
 -- A boot is the next one, of the next plan, and lists each board.
-pub record BootAllowed (c : Campaign) (opening : List Row) (past : List Event) (number time : ℕ) (limit : Option ℕ) (found : Found) (boards : List BoardSeen) (plan : BootPlan) : Type 0 where
+pub record BootAllowed (c : Campaign) (past : List Event) (number time : ℕ) (limit : Option ℕ) (found : Found) (boards : List BoardSeen) (plan : BootPlan) : Type 0 where
   pub number_is : number ≡ boots past + 1
   pub planned : slice_get c.plans (boots past) ≡ Some plan
   pub time_is : time ≡ plan.time
   pub limit_is : limit ≡ plan.limit
-  pub count : length boards ≡ length c.facts.sheets
-  pub listed : (board : ℕ) (b : BoardSeen) → slice_get boards board ≡ Some b → BoardListed c.facts c.first opening past plan board b
-  pub found_is : FoundAllowed found (doubt c.facts opening past)
+  pub count : length boards ≡ length c.basis.facts.sheets
+  pub listed : (board : ℕ) (b : BoardSeen) → slice_get boards board ≡ Some b → BoardListed c.basis c.first past plan board b
+  pub found_is : FoundAllowed found (doubt c.basis past)
 
 -- Ask.
 
@@ -119,9 +118,9 @@ request_of_row row =
     }
 
 -- An ask for a pending row is the daemon's own, and is of the row's request.
-pub record PendingAllowed (facts : Facts) (opening : List Row) (past : List Event) (client : ℕ) (request : Request) (entry : ℕ) (row : Row) : Type 0 where
+pub record PendingAllowed (basis : Basis) (past : List Event) (client : ℕ) (request : Request) (entry : ℕ) (row : Row) : Type 0 where
   pub client_is : client ≡ 0
-  pub row_is : row_of (rows facts opening past) entry ≡ Some row
+  pub row_is : row_of (rows basis past) entry ≡ Some row
   pub pending : row.state ≡ RowState.Pending
   pub request_is : request ≡ request_of_row row
 
@@ -136,10 +135,10 @@ ask_answer (Decision.Kept entry state) = AskAnswer.Kept entry state
 ask_answer (Decision.Refused refusal) = AskAnswer.Refused refusal
 
 -- A client that is free may ask, and is answered by the verdict.
-pub record AskAllowed (facts : Facts) (opening : List Row) (past : List Event) (client : ℕ) (request : Request) (pending : Option ℕ) (answer : AskAnswer) : Type 0 where
+pub record AskAllowed (basis : Basis) (past : List Event) (client : ℕ) (request : Request) (pending : Option ℕ) (answer : AskAnswer) : Type 0 where
   pub free : IsFree past client
-  pub pending_is : IfSome pending (λ entry. (row : Row) × PendingAllowed facts opening past client request entry row)
-  pub answer_is : answer ≡ ask_answer (verdict facts opening past client request (ask_stage pending))
+  pub pending_is : IfSome pending (λ entry. (row : Row) × PendingAllowed basis past client request entry row)
+  pub answer_is : answer ≡ ask_answer (verdict basis past client request (ask_stage pending))
 
 -- Claim.
 
@@ -156,8 +155,8 @@ is_fetched note None = false
 is_fetched note (Some t) = is_whole note t.chosen
 
 -- The entry that the next row gets.
-abbrev pub next_entry : Facts → List Row → List Event → ℕ
-next_entry facts opening past = length (rows facts opening past) + 1
+abbrev pub next_entry : Basis → List Event → ℕ
+next_entry basis past = length (rows basis past) + 1
 
 -- The answers that a claim may get, where that was decided and this was fetched: what was decided, if
 -- it isn't to accept; else, where the payload isn't the release's, that; and where it is, the next
@@ -171,11 +170,11 @@ ClaimAnswered fetched t next (Decision.Accept device release blocks) answer =
     (answer ≡ ClaimAnswer.Refused (Refusal.Payload fetched))
 
 -- A client claims the request of its hold, which isn't a pending row's.
-pub record ClaimAllowed (facts : Facts) (opening : List Row) (past : List Event) (client : ℕ) (request : Request) (fetched : FetchNote) (answer : ClaimAnswer) (held : Held) : Type 0 where
+pub record ClaimAllowed (basis : Basis) (past : List Event) (client : ℕ) (request : Request) (fetched : FetchNote) (answer : ClaimAnswer) (held : Held) : Type 0 where
   pub held_is : hold past client ≡ Some held
   pub request_is : held.request ≡ request
   pub pending : held.pending ≡ None
-  pub answer_is : ClaimAnswered fetched (target facts (views facts opening past) request) (next_entry facts opening past) (verdict facts opening past client request (Stage.Claim held.release)) answer
+  pub answer_is : ClaimAnswered fetched (target basis.facts (views basis past) request) (next_entry basis past) (verdict basis past client request (Stage.Claim held.release)) answer
 
 -- Schedule.
 
@@ -187,9 +186,9 @@ ScheduleAnswered next (Decision.Accept device release blocks) answer =
     (answer ≡ ClaimAnswer.Entry next) ⊎ (answer ≡ ClaimAnswer.Refused Refusal.KeeperFault)
 
 -- A client that is free may put a request off.
-pub record ScheduleAllowed (facts : Facts) (opening : List Row) (past : List Event) (client : ℕ) (request : Request) (answer : ClaimAnswer) : Type 0 where
+pub record ScheduleAllowed (basis : Basis) (past : List Event) (client : ℕ) (request : Request) (answer : ClaimAnswer) : Type 0 where
   pub free : IsFree past client
-  pub answer_is : ScheduleAnswered (next_entry facts opening past) (verdict facts opening past client request Stage.Schedule) answer
+  pub answer_is : ScheduleAnswered (next_entry basis past) (verdict basis past client request Stage.Schedule) answer
 
 -- Resume.
 
@@ -218,29 +217,29 @@ IsRefusedAsk entry _ _ = ⊥
 -- With a payload the daemon's hold is of that row, and the answer is the verdict's on the hold's
 -- request. Without one the daemon's last event in this boot is the refused ask of the row, and the
 -- refusal is repeated.
-abbrev pub ResumeFetched : Facts → List Row → List Event → ℕ → Option FetchNote → ResumeAnswer → Type 0
-ResumeFetched facts opening past entry (Some note) answer =
+abbrev pub ResumeFetched : Basis → List Event → ℕ → Option FetchNote → ResumeAnswer → Type 0
+ResumeFetched basis past entry (Some note) answer =
     (held : Held) × (hold past 0 ≡ Some held) × (held.pending ≡ Some entry)
-    × ResumeAnswered note (target facts (views facts opening past) held.request) (verdict facts opening past 0 held.request (Stage.Resume entry held.release)) answer
-ResumeFetched facts opening past entry None answer =
+    × ResumeAnswered note (target basis.facts (views basis past) held.request) (verdict basis past 0 held.request (Stage.Resume entry held.release)) answer
+ResumeFetched basis past entry None answer =
     (event : Event) × (last_of 0 past ≡ Some event) × IsRefusedAsk entry answer event
 
 -- The daemon itself resumes a pending row.
-pub record ResumeAllowed (facts : Facts) (opening : List Row) (past : List Event) (client entry : ℕ) (fetched : Option FetchNote) (answer : ResumeAnswer) (stored : Stored) (row : Row) : Type 0 where
+pub record ResumeAllowed (basis : Basis) (past : List Event) (client entry : ℕ) (fetched : Option FetchNote) (answer : ResumeAnswer) (stored : Stored) (row : Row) : Type 0 where
   pub client_is : client ≡ 0
-  pub row_is : row_of (rows facts opening past) entry ≡ Some row
+  pub row_is : row_of (rows basis past) entry ≡ Some row
   pub pending : row.state ≡ RowState.Pending
-  pub fetched_is : ResumeFetched facts opening past entry fetched answer
+  pub fetched_is : ResumeFetched basis past entry fetched answer
   pub stored_is : ResumeStored answer stored
 
 -- Start and end.
 
 -- A client starts the next step of its live entry, of which none is open.
-pub record StartAllowed (facts : Facts) (opening : List Row) (past : List Event) (client entry : ℕ) (op : Op) (l : LiveEntry) : Type 0 where
+pub record StartAllowed (basis : Basis) (past : List Event) (client entry : ℕ) (op : Op) (l : LiveEntry) : Type 0 where
   pub live : live_entry past entry ≡ Some l
   pub client_is : l.client ≡ client
   pub closed : step_open past entry ≡ None
-  pub next : next_op facts opening past entry ≡ Some op
+  pub next : next_op basis past entry ≡ Some op
 
 -- A write that went well tells all its marks.
 abbrev pub ToldWhole : Op → Result (Unit {0}) BoardFault → List Mark → List Mark → Type 0
@@ -249,11 +248,11 @@ ToldWhole _ _ told all = Unit {0}
 
 -- A client ends the step that it has open. It tells marks that begin the step's, and what it shows of
 -- the board is allowed.
-pub record EndAllowed (facts : Facts) (first : List Seen) (opening : List Row) (past : List Event) (client entry : ℕ) (op : Op) (outcome : Result (Unit {0}) BoardFault) (told : List Mark) (shown : Seen) : Type 0 where
+pub record EndAllowed (basis : Basis) (first : List Seen) (past : List Event) (client entry : ℕ) (op : Op) (outcome : Result (Unit {0}) BoardFault) (told : List Mark) (shown : Seen) : Type 0 where
   pub open_is : step_open past entry ≡ Some (record { client = client; entry = entry; op = op })
-  pub told_is : IsPrefix told (marks op entry (digest_of (rows facts opening past) entry))
-  pub whole : ToldWhole op outcome told (marks op entry (digest_of (rows facts opening past) entry))
-  pub shows : (board : ℕ) → IsTrue (is_board_of facts (rows facts opening past) entry board) → EndShows facts first opening past board told outcome shown
+  pub told_is : IsPrefix told (marks op entry (digest_of (rows basis past) entry))
+  pub whole : ToldWhole op outcome told (marks op entry (digest_of (rows basis past) entry))
+  pub shows : (board : ℕ) → IsTrue (is_board_of basis.facts (rows basis past) entry board) → EndShows basis first past board told outcome shown
 
 -- Finish.
 
@@ -273,12 +272,12 @@ UnchangedExactly RowState.Failed stored = stored ≢ Stored.Unchanged
 UnchangedExactly RowState.NeedsReboot stored = stored ≢ Stored.Unchanged
 
 -- A client finishes its live entry, which has no next step, in the state in which it ends.
-pub record FinishAllowed (facts : Facts) (opening : List Row) (past : List Event) (client entry : ℕ) (state : RowState) (stored : Stored) (l : LiveEntry) (closed : RowState) : Type 0 where
+pub record FinishAllowed (basis : Basis) (past : List Event) (client entry : ℕ) (state : RowState) (stored : Stored) (l : LiveEntry) (closed : RowState) : Type 0 where
   pub live : live_entry past entry ≡ Some l
   pub client_is : l.client ≡ client
   pub open_none : step_open past entry ≡ None
-  pub done : next_op facts opening past entry ≡ None
-  pub closing : closing facts opening past entry ≡ Some closed
+  pub done : next_op basis past entry ≡ None
+  pub closing : closing basis past entry ≡ Some closed
   pub state_is : state ≡ closing_stored closed stored
   pub unchanged : UnchangedExactly closed stored
 
@@ -294,10 +293,10 @@ may_judge past RowState.Success entry = false
 may_judge past RowState.Failed entry = false
 
 -- A judgement of such a row, whose device is home, by the version that the device shows.
-pub record JudgeAllowed (facts : Facts) (opening : List Row) (past : List Event) (entry : ℕ) (version : List ℕ) (state : RowState) (stored : Stored) (row : Row) (view : DeviceView) : Type 0 where
-  pub row_is : row_of (rows facts opening past) entry ≡ Some row
+pub record JudgeAllowed (basis : Basis) (past : List Event) (entry : ℕ) (version : List ℕ) (state : RowState) (stored : Stored) (row : Row) (view : DeviceView) : Type 0 where
+  pub row_is : row_of (rows basis past) entry ≡ Some row
   pub waits : IsTrue (may_judge past row.state entry)
-  pub device : view_of_row (views facts opening past) row ≡ Some view
+  pub device : view_of_row (views basis past) row ≡ Some view
   pub home : IsTrue (is_home view.seen)
   pub version_is : version_of view ≡ Some version
   pub state_is : state ≡ judge version row
@@ -314,14 +313,14 @@ abbrev pub can_judge : List Event → DeviceView → Row → Bool
 can_judge past view row = bytes_eq view.sheet.device row.device && is_home view.seen && may_judge past row.state row.entry
 
 -- A question may always be asked, but to settle a device only where no row of it can be judged.
-abbrev pub QueryAllowed : Facts → List Row → List Event → Query → Type 0
-QueryAllowed facts opening past (Query.Settle selector) =
-    IfSome (found_view (views facts opening past) selector) (λ view. list_any (can_judge past view) (rows facts opening past) ≡ false)
-QueryAllowed facts opening past Query.Devices = Unit {0}
-QueryAllowed facts opening past (Query.Releases selector) = Unit {0}
-QueryAllowed facts opening past (Query.Upgrades selector) = Unit {0}
-QueryAllowed facts opening past Query.History = Unit {0}
-QueryAllowed facts opening past (Query.Results selector) = Unit {0}
+abbrev pub QueryAllowed : Basis → List Event → Query → Type 0
+QueryAllowed basis past (Query.Settle selector) =
+    IfSome (found_view (views basis past) selector) (λ view. list_any (can_judge past view) (rows basis past) ≡ false)
+QueryAllowed basis past Query.Devices = Unit {0}
+QueryAllowed basis past (Query.Releases selector) = Unit {0}
+QueryAllowed basis past (Query.Upgrades selector) = Unit {0}
+QueryAllowed basis past Query.History = Unit {0}
+QueryAllowed basis past (Query.Results selector) = Unit {0}
 
 -- Unplug and plug.
 
@@ -349,18 +348,18 @@ PlugAnswered None Shows PlugAnswer.NotThere = ⊥
 PlugAnswered None Shows PlugAnswer.AlreadyThere = ⊥
 
 -- An unplug that is done shows that the board is gone.
-abbrev pub UnplugAllowed : Facts → List Row → List Event → Selector → PlugAnswer → Type 0
-UnplugAllowed facts opening past selector answer =
-    PlugAnswered (unplug_refused (found_view (views facts opening past) selector)) (λ seen. seen ≡ Seen.Gone) answer
+abbrev pub UnplugAllowed : Basis → List Event → Selector → PlugAnswer → Type 0
+UnplugAllowed basis past selector answer =
+    PlugAnswered (unplug_refused (found_view (views basis past) selector)) (λ seen. seen ≡ Seen.Gone) answer
 
 -- A plug that is done shows the board at home, with what it may show then.
-pub record PlugShows (facts : Facts) (first : List Seen) (opening : List Row) (past : List Event) (selector : Selector) (shown : Seen) : Type 0 where
+pub record PlugShows (basis : Basis) (first : List Seen) (past : List Event) (selector : Selector) (shown : Seen) : Type 0 where
   pub home : IsTrue (is_home shown)
-  pub fresh : (board : ℕ) → board_found facts (live past) (known facts opening past) selector ≡ Some board → FreshShows facts first opening past board [] shown
+  pub fresh : (board : ℕ) → board_found basis.facts (live past) (known basis past) selector ≡ Some board → FreshShows basis first past board [] shown
 
-abbrev pub PlugAllowed : Facts → List Seen → List Row → List Event → Selector → PlugAnswer → Type 0
-PlugAllowed facts first opening past selector answer =
-    PlugAnswered (plug_refused (found_view (views facts opening past) selector)) (PlugShows facts first opening past selector) answer
+abbrev pub PlugAllowed : Basis → List Seen → List Event → Selector → PlugAnswer → Type 0
+PlugAllowed basis first past selector answer =
+    PlugAnswered (plug_refused (found_view (views basis past) selector)) (PlugShows basis first past selector) answer
 
 -- Give back.
 
@@ -383,30 +382,30 @@ pub record CutAllowed (past : List Event) : Type 0 where
 -- All.
 
 -- The event may come after the past, as its kind wants it.
-abbrev pub Allowed : Campaign → List Row → List Event → Event → Type 0
-Allowed c opening past (Event.Boot number time limit found boards) =
-    (plan : BootPlan) × BootAllowed c opening past number time limit found boards plan
-Allowed c opening past (Event.Query client query) = QueryAllowed c.facts opening past query
-Allowed c opening past (Event.Ask client request pending answer) =
-    AskAllowed c.facts opening past client request pending answer
-Allowed c opening past (Event.Claim client request fetched answer) =
-    (held : Held) × ClaimAllowed c.facts opening past client request fetched answer held
-Allowed c opening past (Event.Schedule client request answer) =
-    ScheduleAllowed c.facts opening past client request answer
-Allowed c opening past (Event.Resume client entry fetched answer stored) =
-    (row : Row) × ResumeAllowed c.facts opening past client entry fetched answer stored row
-Allowed c opening past (Event.Start client entry op) =
-    (l : LiveEntry) × StartAllowed c.facts opening past client entry op l
-Allowed c opening past (Event.End client entry op outcome told seen) =
-    EndAllowed c.facts c.first opening past client entry op outcome told seen
-Allowed c opening past (Event.Finish client entry state stored) =
-    (l : LiveEntry) × (closed : RowState) × FinishAllowed c.facts opening past client entry state stored l closed
-Allowed c opening past (Event.Judge client entry version state stored) =
-    (row : Row) × (view : DeviceView) × JudgeAllowed c.facts opening past entry version state stored row view
-Allowed c opening past (Event.Unplug client device answer) = UnplugAllowed c.facts opening past device answer
-Allowed c opening past (Event.Plug client device answer) = PlugAllowed c.facts c.first opening past device answer
-Allowed c opening past (Event.GiveBack client what) = BackAllowed past client what
-Allowed c opening past Event.Cut = CutAllowed past
+abbrev pub Allowed : Campaign → List Event → Event → Type 0
+Allowed c past (Event.Boot number time limit found boards) =
+    (plan : BootPlan) × BootAllowed c past number time limit found boards plan
+Allowed c past (Event.Query client query) = QueryAllowed c.basis past query
+Allowed c past (Event.Ask client request pending answer) =
+    AskAllowed c.basis past client request pending answer
+Allowed c past (Event.Claim client request fetched answer) =
+    (held : Held) × ClaimAllowed c.basis past client request fetched answer held
+Allowed c past (Event.Schedule client request answer) =
+    ScheduleAllowed c.basis past client request answer
+Allowed c past (Event.Resume client entry fetched answer stored) =
+    (row : Row) × ResumeAllowed c.basis past client entry fetched answer stored row
+Allowed c past (Event.Start client entry op) =
+    (l : LiveEntry) × StartAllowed c.basis past client entry op l
+Allowed c past (Event.End client entry op outcome told seen) =
+    EndAllowed c.basis c.first past client entry op outcome told seen
+Allowed c past (Event.Finish client entry state stored) =
+    (l : LiveEntry) × (closed : RowState) × FinishAllowed c.basis past client entry state stored l closed
+Allowed c past (Event.Judge client entry version state stored) =
+    (row : Row) × (view : DeviceView) × JudgeAllowed c.basis past entry version state stored row view
+Allowed c past (Event.Unplug client device answer) = UnplugAllowed c.basis past device answer
+Allowed c past (Event.Plug client device answer) = PlugAllowed c.basis c.first past device answer
+Allowed c past (Event.GiveBack client what) = BackAllowed past client what
+Allowed c past Event.Cut = CutAllowed past
 
 -- Fewer events of this boot than its limit are counted, where it has one.
 abbrev pub BelowLimit : List Event → Type 0
@@ -420,13 +419,13 @@ pub record BootTakes (past : List Event) (event : Event) : Type 0 where
   pub below : is_counted event ≡ true → BelowLimit past
 
 -- Each event of a past is allowed by the past before it.
-abbrev pub IsLegal : Campaign → List Row → List Event → Type 0
-IsLegal c opening [] = Unit {0}
-IsLegal c opening (event ∷ past) = IsLegal c opening past × BootTakes past event × Allowed c opening past event
+abbrev pub IsLegal : Campaign → List Event → Type 0
+IsLegal c [] = Unit {0}
+IsLegal c (event ∷ past) = IsLegal c past × BootTakes past event × Allowed c past event
 
 -- A log is legal, over the rows before it.
-abbrev pub Legal : Campaign → List Row → List Event → Type 0
-Legal c opening log = IsLegal c opening (past_of log)
+abbrev pub Legal : Campaign → List Event → Type 0
+Legal c log = IsLegal c (past_of log)
 
 -- What every event wants of the boot that runs, its limit aside.
 pub record BootRuns (past : List Event) (event : Event) : Type 0 where
@@ -435,6 +434,11 @@ pub record BootRuns (past : List Event) (event : Event) : Type 0 where
 
 -- Each event of a past is allowed by the past before it, in a boot that may run on beyond its limit. So the
 -- past is legal, or would be if those boots had no limit.
-abbrev pub IsLegalUnlimited : Campaign → List Row → List Event → Type 0
-IsLegalUnlimited c opening [] = Unit {0}
-IsLegalUnlimited c opening (event ∷ past) = IsLegalUnlimited c opening past × BootRuns past event × Allowed c opening past event
+abbrev pub IsLegalUnlimited : Campaign → List Event → Type 0
+IsLegalUnlimited c [] = Unit {0}
+IsLegalUnlimited c (event ∷ past) = IsLegalUnlimited c past × BootRuns past event × Allowed c past event
+
+-- The log with the event is legal in some campaign over this basis, or would be if its boots had no limit.
+abbrev pub IsNext : Basis → List Event → Event → Type 0
+IsNext basis past event =
+    (first : List Seen) × (plans : List BootPlan) × IsLegalUnlimited (campaign_on basis first plans) (event ∷ past)

@@ -11,15 +11,8 @@ pub mod Legal
 pub mod Once
 pub mod Crashes
 pub mod Laws
-pub mod CoreCase
-pub mod Core
-pub mod CoreFolds
 pub mod Examples
 pub mod WorkedAnswers
-pub mod CoreViews
-pub mod CoreBoards
-pub mod CoreSteps
-pub mod CoreAfter
 pub use Rattle.version_formats.specs.VersionOrder
 pub use Rattle.fw_facts.specs.Flags
 pub use Rattle.fw_facts.specs.Machines

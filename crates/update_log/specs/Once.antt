@@ -17,10 +17,9 @@ use Rattle.update_log.specs.declared.answer.ClaimAnswer.{ClaimAnswer}
 use Rattle.update_log.specs.declared.answer.ResumeAnswer.{ResumeAnswer}
 use Rattle.update_log.specs.declared.refusal.FetchNote.{FetchNote}
 use Rattle.update_log.specs.declared.request.Request.{Request}
-use Rattle.update_log.specs.declared.facts.Facts.{Facts}
 use Rattle.update_log.specs.Pasts.{past_of, boots}
 use Rattle.update_log.specs.Holding.{holds, request_held}
-use Rattle.update_log.specs.Known.{Target, target, row_of, is_board_of, rows, seen, doubt, views}
+use Rattle.update_log.specs.Known.{Basis, Target, target, row_of, is_board_of, rows, seen, doubt, views}
 use Rattle.update_log.specs.Verdicts.{first_unmet_for}
 use Rattle.update_log.specs.Steps.{op_number}
 use Rattle.update_log.specs.Shows.{Campaign, IsPrefix, told, told_by, is_began, HasRaw, first_of_board}
@@ -32,9 +31,9 @@ pub record JournalAndView : Type 0 where
   pub view : Seen
 
 -- A journal is what was told of its board, and a tail that begins the marks of the step open on it.
-pub record JournalFits (facts : Facts) (opening : List Row) (past : List Event) (board : ℕ) (journal tail : List Mark) : Type 0 where
-  pub told_and_tail : journal ≡ told facts opening past board ++ tail
-  pub tail_is : IsPrefix tail (open_marks facts opening past board)
+pub record JournalFits (basis : Basis) (past : List Event) (board : ℕ) (journal tail : List Mark) : Type 0 where
+  pub told_and_tail : journal ≡ told basis past board ++ tail
+  pub tail_is : IsPrefix tail (open_marks basis past board)
 
 -- A board that is there shows the raw version of its first image.
 abbrev pub ShowsFirst : Seen → Seen → Type 0
@@ -45,18 +44,18 @@ ShowsFirst Seen.Stranger first = Unit {0}
 -- A board fits a past: its journal does; where no step is open on it and there was a boot, it shows
 -- what it was last seen to show; and where no write of it began, it shows the raw version of its
 -- first image, if it is there.
-pub record BoardFits (facts : Facts) (first : List Seen) (opening : List Row) (past : List Event) (board : ℕ) (b : JournalAndView) (tail : List Mark) : Type 0 where
-  pub journal : JournalFits facts opening past board b.journal tail
-  pub view : open_on facts opening past board ≡ None → 0 < boots past → b.view ≡ seen facts opening past board
+pub record BoardFits (basis : Basis) (first : List Seen) (past : List Event) (board : ℕ) (b : JournalAndView) (tail : List Mark) : Type 0 where
+  pub journal : JournalFits basis past board b.journal tail
+  pub view : open_on basis past board ≡ None → 0 < boots past → b.view ≡ seen basis past board
   pub unwritten : list_any is_began b.journal ≡ false → ShowsFirst b.view (first_of_board first board)
 
 -- All boards fit.
-pub record FitsPast (facts : Facts) (first : List Seen) (opening : List Row) (past : List Event) (boards : List JournalAndView) : Type 0 where
-  pub count : length boards ≡ length facts.sheets
-  pub each : (board : ℕ) (b : JournalAndView) → slice_get boards board ≡ Some b → (tail : List Mark) × BoardFits facts first opening past board b tail
+pub record FitsPast (basis : Basis) (first : List Seen) (past : List Event) (boards : List JournalAndView) : Type 0 where
+  pub count : length boards ≡ length basis.facts.sheets
+  pub each : (board : ℕ) (b : JournalAndView) → slice_get boards board ≡ Some b → (tail : List Mark) × BoardFits basis first past board b tail
 
-abbrev pub Fits : Campaign → List Row → List Event → List JournalAndView → Type 0
-Fits c opening log boards = FitsPast c.facts c.first opening (past_of log) boards
+abbrev pub Fits : Campaign → List Event → List JournalAndView → Type 0
+Fits c log boards = FitsPast c.basis c.first (past_of log) boards
 
 -- The entry that a mark names.
 abbrev pub entry_named : Mark → Option ℕ
@@ -100,10 +99,10 @@ abbrev pub is_pending_row : ℕ → Row → Bool
 is_pending_row entry row = (row.entry == entry) && is_pending row.state
 
 -- How many requests of an entry were accepted: pending rows of the opening, and since then.
-abbrev pub accepted : Facts → List Row → ℕ → List Event → ℕ
-accepted facts opening entry [] = how_many (is_pending_row entry) opening
-accepted facts opening entry (event ∷ past) =
-    if accepts entry (doubt facts opening past) event then suc (accepted facts opening entry past) else accepted facts opening entry past
+abbrev pub accepted : Basis → ℕ → List Event → ℕ
+accepted basis entry [] = how_many (is_pending_row entry) basis.opening
+accepted basis entry (event ∷ past) =
+    if accepts entry (doubt basis past) event then suc (accepted basis entry past) else accepted basis entry past
 
 -- The event takes an entry: its accepted claim, or the resumption that begins it.
 abbrev pub takes : ℕ → Event → Bool
@@ -139,21 +138,21 @@ strokes entry (_ ∷ past) = strokes entry past
 -- started, and a release was chosen for its request that has the digest of its row: for the device of
 -- that row, of which the release's component provides a GUID, and whose requirements hold. The payload has
 -- the release's digest and size.
-pub record TakenWell (facts : Facts) (opening : List Row) (before : List Event) (event : Event) (row : Row) (request : Request) (t : Target) (note : FetchNote) : Type 0 where
+pub record TakenWell (basis : Basis) (before : List Event) (event : Event) (row : Row) (request : Request) (t : Target) (note : FetchNote) : Type 0 where
   pub request_is : request_taken before event ≡ Some request
   pub tag : request.tag ≡ row.tag
   pub unstarted : strokes row.entry before ≡ []
-  pub target_is : target facts (views facts opening before) request ≡ Some t
+  pub target_is : target basis.facts (views basis before) request ≡ Some t
   pub device : t.view.sheet.device ≡ row.device
   pub digest : t.chosen.release.digest ≡ row.digest
   pub matches : IsTrue (provides (guids_of t.view) t.chosen.component)
-  pub met : first_unmet_for facts row.client (views facts opening before) t ≡ None
+  pub met : first_unmet_for basis.facts row.client (views basis before) t ≡ None
   pub payload : payload_taken event ≡ Some note
   pub whole : IsTrue (is_whole note t.chosen)
 
-abbrev pub TakenBy : Facts → List Row → Row → List Event → Event → Type 0
-TakenBy facts opening row before event =
-    (request : Request) × (t : Target) × (note : FetchNote) × TakenWell facts opening before event row request t note
+abbrev pub TakenBy : Basis → Row → List Event → Event → Type 0
+TakenBy basis row before event =
+    (request : Request) × (t : Target) × (note : FetchNote) × TakenWell basis before event row request t note
 
 -- A fact of the event that takes an entry, and of the log before it.
 abbrev pub AtTaking : ℕ → (List Event → Event → Type 0) → List Event → Type 0
@@ -184,11 +183,11 @@ starts_write entry (Event.Start client started op) = (started == entry) && is_wr
 starts_write entry _ = false
 
 -- Each event that tells a mark like this of a board comes after the start of the entry's write.
-abbrev pub AfterStart : Facts → List Row → ℕ → ℕ → Mark → List Event → Type 0
-AfterStart facts opening board entry mark [] = Unit {0}
-AfterStart facts opening board entry mark (event ∷ past) =
-    OnTrue (list_any (is_like mark) (told_by facts (rows facts opening past) event board)) (IsTrue (list_any (starts_write entry) past))
-    × AfterStart facts opening board entry mark past
+abbrev pub AfterStart : Basis → ℕ → ℕ → Mark → List Event → Type 0
+AfterStart basis board entry mark [] = Unit {0}
+AfterStart basis board entry mark (event ∷ past) =
+    OnTrue (list_any (is_like mark) (told_by basis.facts (rows basis past) event board)) (IsTrue (list_any (starts_write entry) past))
+    × AfterStart basis board entry mark past
 
 -- The digest that the mark has, if it is an end.
 abbrev pub HasDigest : Mark → List ℕ → Type 0
@@ -201,36 +200,36 @@ HasDigest Mark.Left d = Unit {0}
 -- request: the board is the device of the entry's row, no other mark like this one stands in any
 -- journal, one request of the entry was accepted, one event took the entry and took it well, the
 -- mark has the row's digest, and the steps stand in order, the write's before what was told of it.
-pub record WrittenOnce (facts : Facts) (opening : List Row) (past : List Event) (boards : List JournalAndView) (board : ℕ) (journal : List Mark) (mark : Mark) (entry : ℕ) (row : Row) : Type 0 where
-  pub row_is : row_of (rows facts opening past) entry ≡ Some row
-  pub board_is : IsTrue (is_board_of facts (rows facts opening past) entry board)
+pub record WrittenOnce (basis : Basis) (past : List Event) (boards : List JournalAndView) (board : ℕ) (journal : List Mark) (mark : Mark) (entry : ℕ) (row : Row) : Type 0 where
+  pub row_is : row_of (rows basis past) entry ≡ Some row
+  pub board_is : IsTrue (is_board_of basis.facts (rows basis past) entry board)
   pub alone : how_many (is_like mark) journal ≡ 1
   pub nowhere_else : (other : ℕ) (b : JournalAndView) → slice_get boards other ≡ Some b → other ≢ board → how_many (is_like mark) b.journal ≡ 0
-  pub accepted_once : accepted facts opening entry past ≡ 1
+  pub accepted_once : accepted basis entry past ≡ 1
   pub taken_once : how_many (takes entry) past ≡ 1
-  pub taken_well : AtTaking entry (TakenBy facts opening row) past
+  pub taken_well : AtTaking entry (TakenBy basis row) past
   pub digest : HasDigest mark row.digest
   pub in_order : InOrder (strokes entry past)
-  pub after_start : AfterStart facts opening board entry mark past
+  pub after_start : AfterStart basis board entry mark past
 
 -- So does each mark of a write in a journal.
-abbrev pub MarkOnce : Facts → List Row → List Event → List JournalAndView → ℕ → List Mark → Mark → Type 0
-MarkOnce facts opening past boards board journal mark =
-    IfSome (entry_named mark) (λ entry. (row : Row) × WrittenOnce facts opening past boards board journal mark entry row)
+abbrev pub MarkOnce : Basis → List Event → List JournalAndView → ℕ → List Mark → Mark → Type 0
+MarkOnce basis past boards board journal mark =
+    IfSome (entry_named mark) (λ entry. (row : Row) × WrittenOnce basis past boards board journal mark entry row)
 
 -- Each mark of a write in each journal belongs to one accepted request and one taking of its entry, and
 -- no two rows have one tag. A row that tries another one again tries an earlier failed one of its device,
 -- and no two rows try the same one.
-pub record OncePast (facts : Facts) (opening : List Row) (past : List Event) (boards : List JournalAndView) : Type 0 where
-  pub marks : (board : ℕ) (b : JournalAndView) → slice_get boards board ≡ Some b → AllByRecursion (MarkOnce facts opening past boards board b.journal) b.journal
-  pub tags : AllPairs (λ a b. a.tag ≢ b.tag) (rows facts opening past)
-  pub linked : AreLinked (rows facts opening past)
-  pub retried : RetriedOnce (rows facts opening past)
+pub record OncePast (basis : Basis) (past : List Event) (boards : List JournalAndView) : Type 0 where
+  pub marks : (board : ℕ) (b : JournalAndView) → slice_get boards board ≡ Some b → AllByRecursion (MarkOnce basis past boards board b.journal) b.journal
+  pub tags : AllPairs (λ a b. a.tag ≢ b.tag) (rows basis past)
+  pub linked : AreLinked (rows basis past)
+  pub retried : RetriedOnce (rows basis past)
 
-abbrev pub Once : Campaign → List Row → List Event → List JournalAndView → Type 0
-Once c opening log boards = OncePast c.facts opening (past_of log) boards
+abbrev pub Once : Campaign → List Event → List JournalAndView → Type 0
+Once c log boards = OncePast c.basis (past_of log) boards
 
 -- No two rows have one tag, and no entry is taken twice, written or not.
-pub record IsTakenOnce (facts : Facts) (opening : List Row) (past : List Event) : Type 0 where
-  pub tags : AllPairs (λ a b. a.tag ≢ b.tag) (rows facts opening past)
+pub record IsTakenOnce (basis : Basis) (past : List Event) : Type 0 where
+  pub tags : AllPairs (λ a b. a.tag ≢ b.tag) (rows basis past)
   pub taken : (entry : ℕ) → how_many (takes entry) past ≤ 1

@@ -3,7 +3,7 @@
 -- A past is the events of a log, the newest first: so "the last event that .." is the first one
 -- found, and the log before an event is the rest of the list. What a past says is said by what each
 -- event makes of what the past before it said.
-use Rattle.std.specs.Prelude.{ℕ, Bool, true, false, ◌||◌, ◌==◌, ◌+◌, List, [], ◌∷◌, Option, Some, None, option_map, unwrap_or, if◌then◌else◌, reverse}
+use Rattle.std.specs.Prelude.{◌≡◌, ℕ, Bool, true, false, ◌||◌, ◌==◌, ◌+◌, List, [], ◌∷◌, Option, Some, None, option_map, unwrap_or, if◌then◌else◌, reverse}
 use Rattle.update_log.specs.declared.event.Event.{Event}
 use Rattle.update_log.specs.declared.event.Found.{Found}
 use Rattle.update_log.specs.declared.event.Stored.{Stored}
@@ -73,6 +73,16 @@ is_keeper_fault _ = false
 abbrev pub is_found_fault : Found → Bool
 is_found_fault Found.Fault = true
 is_found_fault _ = false
+
+-- A boot that couldn't read the history.
+abbrev pub is_fault_boot : Event → Bool
+is_fault_boot (Event.Boot number time limit found boards) = is_found_fault found
+is_fault_boot _ = false
+
+-- Each event is such a boot.
+abbrev pub AllFaults : List Event → Type 0
+AllFaults [] = Unit {0}
+AllFaults (event ∷ past) = (is_fault_boot event ≡ true) × AllFaults past
 
 -- The event met a fault of the keeper: the history couldn't be read or written.
 abbrev pub meets_fault : Event → Bool

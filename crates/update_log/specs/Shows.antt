@@ -16,13 +16,16 @@ use Rattle.update_log.specs.declared.refusal.FetchNote.{FetchNote}
 use Rattle.update_log.specs.declared.facts.Facts.{Facts}
 use Rattle.update_log.specs.declared.facts.BootPlan.{BootPlan}
 use Rattle.update_log.specs.Holding.{live}
-use Rattle.update_log.specs.Known.{row_of, is_board_of, known, tells, rows, seen}
+use Rattle.update_log.specs.Known.{Basis, row_of, is_board_of, known, tells, rows, seen}
 
--- A campaign: its facts, what each board shows with its first image, and the plans of the boots.
+-- A campaign: what its log stands on, what each board shows with its first image, and the plans of the boots.
 pub record Campaign : Type 0 where
-  pub facts : Facts
+  pub basis : Basis
   pub first : List Seen
   pub plans : List BootPlan
+
+abbrev pub campaign_on : Basis → List Seen → List BootPlan → Campaign
+campaign_on basis first plans = record { basis = basis; first = first; plans = plans }
 
 -- The marks of a step that goes well: of an entry, whose payload has that digest.
 abbrev pub marks : Op → ℕ → List ℕ → List Mark
@@ -55,10 +58,10 @@ told_by facts rows (Event.End client entry op outcome told seen) board =
 told_by facts rows _ board = []
 
 -- The marks of a board that were told, in order.
-abbrev pub told : Facts → List Row → List Event → ℕ → List Mark
-told facts opening [] board = []
-told facts opening (event ∷ past) board =
-    told facts opening past board ++ told_by facts (rows facts opening past) event board
+abbrev pub told : Basis → List Event → ℕ → List Mark
+told basis [] board = []
+told basis (event ∷ past) board =
+    told basis past board ++ told_by basis.facts (rows basis past) event board
 
 -- What the board's first image shows.
 abbrev pub first_of_board : List Seen → ℕ → Seen
@@ -76,10 +79,10 @@ tells_home (Some seen) = is_home seen
 tells_home None = false
 
 -- The last that a past shows of the board at home, or what its first image shows where it shows none.
-abbrev pub home_before : Facts → List Seen → List Row → List Event → ℕ → Seen
-home_before facts first opening [] board = first_of_board first board
-home_before facts first opening (event ∷ past) board =
-    home_or (tells facts (live past) (known facts opening past) event board) (home_before facts first opening past board)
+abbrev pub home_before : Basis → List Seen → List Event → ℕ → Seen
+home_before basis first [] board = first_of_board first board
+home_before basis first (event ∷ past) board =
+    home_or (tells basis.facts (live past) (known basis past) event board) (home_before basis first past board)
 
 abbrev pub is_began : Mark → Bool
 is_began Mark.Entered = false
@@ -101,12 +104,12 @@ is_left Mark.Left = true
 
 -- The begin of a write was told after the board was last shown at home, or after the start of the
 -- campaign where it never was. What the showing event itself told came before it showed.
-abbrev pub began_since : Facts → List Seen → List Row → List Event → ℕ → Bool
-began_since facts first opening [] board = false
-began_since facts first opening (event ∷ past) board =
-    if tells_home (tells facts (live past) (known facts opening past) event board)
+abbrev pub began_since : Basis → List Seen → List Event → ℕ → Bool
+began_since basis first [] board = false
+began_since basis first (event ∷ past) board =
+    if tells_home (tells basis.facts (live past) (known basis past) event board)
     then false
-    else list_any is_began (told_by facts (rows facts opening past) event board) || began_since facts first opening past board
+    else list_any is_began (told_by basis.facts (rows basis past) event board) || began_since basis first past board
 
 -- The raw version of a payload that was fetched.
 abbrev pub raw_fetched : Option FetchNote → Option ℕ
@@ -140,11 +143,11 @@ HasMode Seen.Stranger other = ⊥
 -- The raw version that a board may show, which tells these marks with it: that which it showed
 -- before, or 0 where the begin of a write was told since, or that of a payload whose whole write was
 -- told.
-abbrev pub RawAllowed : Facts → List Seen → List Row → List Event → ℕ → List Mark → ℕ → Type 0
-RawAllowed facts first opening past board marks raw =
-    HasRaw (home_before facts first opening past board) raw
-    ⊎ ((raw ≡ 0) × IsTrue (list_any is_began marks || began_since facts first opening past board))
-    ⊎ IsWritten past (told facts opening past board ++ marks) raw
+abbrev pub RawAllowed : Basis → List Seen → List Event → ℕ → List Mark → ℕ → Type 0
+RawAllowed basis first past board marks raw =
+    HasRaw (home_before basis first past board) raw
+    ⊎ ((raw ≡ 0) × IsTrue (list_any is_began marks || began_since basis first past board))
+    ⊎ IsWritten past (told basis past board ++ marks) raw
 
 -- The mode that a board may show at the end of a step which tells these marks: bootloader mode where
 -- it entered it, runtime mode where it left it, one of bootloader mode and that of before where a
@@ -164,13 +167,13 @@ is_alike _ _ = false
 
 -- What the end of a step may show of its board: a step that went well leaves it as present as it
 -- was, a board is home only where it was home, and its raw version and mode are allowed.
-pub record EndShows (facts : Facts) (first : List Seen) (opening : List Row) (past : List Event) (board : ℕ) (marks : List Mark) (outcome : Result (Unit {0}) BoardFault) (shown : Seen) : Type 0 where
-  pub stays : OnOk outcome (IsTrue (is_alike (seen facts opening past board) shown))
-  pub home : IsTrue (is_home shown) → IsTrue (is_home (seen facts opening past board))
-  pub raw : (raw : ℕ) (mode : Mode) → shown ≡ Seen.Home raw mode → RawAllowed facts first opening past board marks raw
-  pub mode : (raw : ℕ) (mode : Mode) → shown ≡ Seen.Home raw mode → ModeAllowed marks (home_before facts first opening past board) mode
+pub record EndShows (basis : Basis) (first : List Seen) (past : List Event) (board : ℕ) (marks : List Mark) (outcome : Result (Unit {0}) BoardFault) (shown : Seen) : Type 0 where
+  pub stays : OnOk outcome (IsTrue (is_alike (seen basis past board) shown))
+  pub home : IsTrue (is_home shown) → IsTrue (is_home (seen basis past board))
+  pub raw : (raw : ℕ) (mode : Mode) → shown ≡ Seen.Home raw mode → RawAllowed basis first past board marks raw
+  pub mode : (raw : ℕ) (mode : Mode) → shown ≡ Seen.Home raw mode → ModeAllowed marks (home_before basis first past board) mode
 
 -- What a boot or a plug may show of a board: an allowed raw version, and bootloader mode only with 0.
-pub record FreshShows (facts : Facts) (first : List Seen) (opening : List Row) (past : List Event) (board : ℕ) (marks : List Mark) (shown : Seen) : Type 0 where
-  pub raw : (raw : ℕ) (mode : Mode) → shown ≡ Seen.Home raw mode → RawAllowed facts first opening past board marks raw
+pub record FreshShows (basis : Basis) (first : List Seen) (past : List Event) (board : ℕ) (marks : List Mark) (shown : Seen) : Type 0 where
+  pub raw : (raw : ℕ) (mode : Mode) → shown ≡ Seen.Home raw mode → RawAllowed basis first past board marks raw
   pub mode : (raw : ℕ) → shown ≡ Seen.Home raw Mode.Bootloader → raw ≡ 0

@@ -22,7 +22,7 @@ use Rattle.update_log.specs.declared.trace.Trace.{Trace}
 use Rattle.update_log.specs.declared.trace.TraceStep.{TraceStep}
 use Rattle.update_log.specs.declared.live.Held.{Held}
 use Rattle.update_log.specs.Holding.{holds, request_held}
-use Rattle.update_log.specs.Known.{Target, target, row_of, rows, views}
+use Rattle.update_log.specs.Known.{Basis, Target, target, row_of, rows, views}
 
 -- The steps, in the order in which they are taken, and the number of each.
 abbrev pub all_ops : List Op
@@ -130,14 +130,14 @@ trace_after facts views holds entry (Event.End client ended op outcome told seen
 trace_after facts views holds entry _ before = before
 
 -- The trace of an entry: what was found as it was taken, and the steps that ended since.
-abbrev pub trace : Facts → List Row → ℕ → List Event → Option Trace
-trace facts opening entry [] = None
-trace facts opening entry (event ∷ past) =
-    trace_after facts (views facts opening past) (holds past) entry event (trace facts opening entry past)
+abbrev pub trace : Basis → ℕ → List Event → Option Trace
+trace basis entry [] = None
+trace basis entry (event ∷ past) =
+    trace_after basis.facts (views basis past) (holds past) entry event (trace basis entry past)
 
 -- The next step of an entry. It has none once cleanup has ended.
-abbrev pub next_op : Facts → List Row → List Event → ℕ → Option Op
-next_op facts opening past entry = option_and_then next_step (trace facts opening entry past)
+abbrev pub next_op : Basis → List Event → ℕ → Option Op
+next_op basis past entry = option_and_then next_step (trace basis entry past)
 
 -- The judgement of a row: success where the version shown compares equal to the row's new version,
 -- else failure. It looks at nothing else.
@@ -168,8 +168,8 @@ view_of_row views row = find (λ v. bytes_eq v.sheet.device row.device) views
 abbrev pub closing_at : List DeviceView → Trace → Row → Option RowState
 closing_at views t row = option_map (closing_of t row) (view_of_row views row)
 
-abbrev pub closing : Facts → List Row → List Event → ℕ → Option RowState
-closing facts opening past entry =
+abbrev pub closing : Basis → List Event → ℕ → Option RowState
+closing basis past entry =
     option_and_then
-    (λ t. option_and_then (closing_at (views facts opening past) t) (row_of (rows facts opening past) entry))
-    (trace facts opening entry past)
+    (λ t. option_and_then (closing_at (views basis past) t) (row_of (rows basis past) entry))
+    (trace basis entry past)

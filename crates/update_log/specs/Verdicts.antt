@@ -27,7 +27,7 @@ use Rattle.update_log.specs.declared.live.LiveEntry.{LiveEntry}
 use Rattle.requirements.specs.Requirements.{first_unmet}
 use Rattle.release_catalogue.specs.Lookup.{Chosen}
 use Rattle.update_log.specs.Holding.{live, is_live, held, blocks_of}
-use Rattle.update_log.specs.Known.{Target, target, row_of, row_with_tag, rows, views}
+use Rattle.update_log.specs.Known.{Basis, Target, target, row_of, row_with_tag, rows, views}
 
 -- All that a decision reads.
 pub record Case : Type 0 where
@@ -282,12 +282,12 @@ abbrev pub decided : Case → Decision
 decided c = on_kept c (kept c)
 
 -- What a client's request is after a past, at a stage.
-abbrev pub case_of : Facts → List Row → List Event → ℕ → Request → Stage → Case
-case_of facts opening past client request stage =
+abbrev pub case_of : Basis → List Event → ℕ → Request → Stage → Case
+case_of basis past client request stage =
     record {
-      facts = facts;
-      views = views facts opening past;
-      rows = rows facts opening past;
+      facts = basis.facts;
+      views = views basis past;
+      rows = rows basis past;
       live = live past;
       held = held past;
       client = client;
@@ -296,5 +296,5 @@ case_of facts opening past client request stage =
     }
 
 -- The verdict on it.
-abbrev pub verdict : Facts → List Row → List Event → ℕ → Request → Stage → Decision
-verdict facts opening past client request stage = decided (case_of facts opening past client request stage)
+abbrev pub verdict : Basis → List Event → ℕ → Request → Stage → Decision
+verdict basis past client request stage = decided (case_of basis past client request stage)

@@ -29,6 +29,7 @@ use Rattle.update_log.specs.Boards.{board_with, board_at}
 use Rattle.update_log.specs.Verdicts.{verdict}
 use Rattle.update_log.specs.Steps.{next_op, closing}
 use Rattle.update_log.specs.Examples.{facts, sheet, machine, device_one, device_two, guid_one, guid_two, digest, other_digest, old, well, shows, both_marks, request, found, ask, claim, start, ended}
+use Rattle.update_log.specs.Known.{basis_of}
 
 -- After a boot that shows 1.0.0, an ask for 1.1.0 and its claim, entry 1 is live.
 abbrev pub boot : Event
@@ -69,9 +70,9 @@ abbrev pub waiting : List Event
 waiting = Event.Finish 1 1 RowState.NeedsReboot Stored.Yes ∷ staged
 
 pub record NeedsReboot : Type 0 where
-  pub closes : closing reboot_facts [] staged 1 ≡ Some RowState.NeedsReboot
-  pub refused : verdict reboot_facts [] waiting 1 second_request Stage.Ask ≡ Decision.Refused (Refusal.Unsettled 1)
-  pub kept : verdict reboot_facts [] waiting 1 request Stage.Ask ≡ Decision.Kept 1 RowState.NeedsReboot
+  pub closes : closing (basis_of reboot_facts []) staged 1 ≡ Some RowState.NeedsReboot
+  pub refused : verdict (basis_of reboot_facts []) waiting 1 second_request Stage.Ask ≡ Decision.Refused (Refusal.Unsettled 1)
+  pub kept : verdict (basis_of reboot_facts []) waiting 1 request Stage.Ask ≡ Decision.Kept 1 RowState.NeedsReboot
 
 -- ---- a device that needs its boot loader
 
@@ -105,12 +106,12 @@ strange_end =
     ∷ ended Op.Attach [] Seen.Stranger ∷ start Op.Attach ∷ strange
 
 pub record NeedsBootloader : Type 0 where
-  pub detach : next_op loader_facts [] prepared 1 ≡ Some Op.Detach
-  pub write : next_op loader_facts [] detached 1 ≡ Some Op.Write
-  pub unfit : next_op unfit_facts [] detached 1 ≡ Some Op.Attach
-  pub counterpart : next_op counterpart_facts [] detached 1 ≡ Some Op.Write
-  pub stranger : next_op loader_facts [] strange 1 ≡ Some Op.Attach
-  pub stays_begun : closing loader_facts [] strange_end 1 ≡ Some RowState.Begun
+  pub detach : next_op (basis_of loader_facts []) prepared 1 ≡ Some Op.Detach
+  pub write : next_op (basis_of loader_facts []) detached 1 ≡ Some Op.Write
+  pub unfit : next_op (basis_of unfit_facts []) detached 1 ≡ Some Op.Attach
+  pub counterpart : next_op (basis_of counterpart_facts []) detached 1 ≡ Some Op.Write
+  pub stranger : next_op (basis_of loader_facts []) strange 1 ≡ Some Op.Attach
+  pub stays_begun : closing (basis_of loader_facts []) strange_end 1 ≡ Some RowState.Begun
 
 -- ---- a change in doubt
 
@@ -125,8 +126,8 @@ rebooted found = Event.Boot 2 2000 None found (shows 0 old [] ∷ []) ∷ doubte
 
 pub record InDoubt : Type 0 where
   pub is_off : off doubted ≡ true
-  pub kept : verdict plain_facts [] (rebooted Found.Kept) 1 request Stage.Ask ≡ Decision.Kept 1 RowState.Begun
-  pub lost : verdict plain_facts [] (rebooted Found.Lost) 1 request Stage.Ask ≡ Decision.Accept 0 found 1
+  pub kept : verdict (basis_of plain_facts []) (rebooted Found.Kept) 1 request Stage.Ask ≡ Decision.Kept 1 RowState.Begun
+  pub lost : verdict (basis_of plain_facts []) (rebooted Found.Lost) 1 request Stage.Ask ≡ Decision.Accept 0 found 1
 
 -- ---- boards that share an ID
 
@@ -152,7 +153,7 @@ pub record SharedId : Type 0 where
   pub first_place : board_at shared_facts 0 ≡ Some 1
   pub second_place : board_at shared_facts 1 ≡ Some 2
   pub no_more : board_at shared_facts 2 ≡ None
-  pub loser : verdict shared_facts [] shared_boot 1 request Stage.Ask ≡ Decision.Refused Refusal.NoDevice
+  pub loser : verdict (basis_of shared_facts []) shared_boot 1 request Stage.Ask ≡ Decision.Refused Refusal.NoDevice
   pub earlier : board_with tied_facts device_one ≡ Some 0
 
 -- ---- refusals
@@ -178,11 +179,11 @@ abbrev pub small_pool : Facts
 small_pool = record plain_facts { pool = 0 }
 
 pub record AreRefused : Type 0 where
-  pub vetoed : verdict (on_battery DeviceFlag.Internal) [] (boot ∷ []) 1 request Stage.Ask ≡ Decision.Refused (Refusal.Veto (codes "power"))
-  pub hindered : verdict (on_battery DeviceFlag.RequireAc) [] (boot ∷ []) 1 request Stage.Ask ≡ Decision.Refused (Refusal.Problem Problem.RequireAcPower)
-  pub size : verdict small_board [] (boot ∷ []) 1 request Stage.Ask ≡ Decision.Refused (Refusal.Size 14 0 13)
-  pub no_room : verdict small_pool [] (boot ∷ []) 1 request Stage.Ask ≡ Decision.Refused (Refusal.NoRoom 1 0)
-  pub busy : verdict plain_facts [] claimed 2 second_request Stage.Ask ≡ Decision.Refused (Refusal.Busy 1)
+  pub vetoed : verdict (basis_of (on_battery DeviceFlag.Internal) []) (boot ∷ []) 1 request Stage.Ask ≡ Decision.Refused (Refusal.Veto (codes "power"))
+  pub hindered : verdict (basis_of (on_battery DeviceFlag.RequireAc) []) (boot ∷ []) 1 request Stage.Ask ≡ Decision.Refused (Refusal.Problem Problem.RequireAcPower)
+  pub size : verdict (basis_of small_board []) (boot ∷ []) 1 request Stage.Ask ≡ Decision.Refused (Refusal.Size 14 0 13)
+  pub no_room : verdict (basis_of small_pool []) (boot ∷ []) 1 request Stage.Ask ≡ Decision.Refused (Refusal.NoRoom 1 0)
+  pub busy : verdict (basis_of plain_facts []) claimed 2 second_request Stage.Ask ≡ Decision.Refused (Refusal.Busy 1)
 
 -- ---- installs that are tried again
 
@@ -218,7 +219,7 @@ again entry = record request { retry_of = Some entry }
 
 -- What is decided of it, over these rows.
 abbrev pub tried_over : List Row → ℕ → Stage → Decision
-tried_over rows entry stage = verdict plain_facts rows (boot ∷ []) 1 (again entry) stage
+tried_over rows entry stage = verdict (basis_of plain_facts rows) (boot ∷ []) 1 (again entry) stage
 
 abbrev pub cant : RetryFault → Decision
 cant fault = Decision.Refused (Refusal.Retry fault)

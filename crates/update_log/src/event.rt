@@ -1,13 +1,16 @@
 //! The events of the log.
+ghost use Rattle.std.specs.Prelude.{◌≡◌, IfOk};
+
 use crate::answer::{AskAnswer, ClaimAnswer, PlugAnswer, ResumeAnswer};
 use crate::refusal::FetchNote;
 use crate::request::Request;
 use crate::told::Told;
 use device_list::Selector;
 use emulated_boards::BoardFault;
-use fw_base::{Listed, Name};
+use fw_base::{Listed, Name, NoMemory};
 use fw_facts::Seen;
 use history_keeper::RowState;
+use std::alloc::Global;
 use version_formats::Version;
 
 /// A step of an update, in the order in which steps are taken.
@@ -176,3 +179,147 @@ pub enum Event {
 
 /// All events, the oldest first.
 pub type Log = Listed<Event>;
+
+impl Event {
+    /// An equal event.
+    pub fn copy(&self, alloc: Global) -> Result<Event, NoMemory>
+        ensures { IfOk result (λ copy. copy ≡ self.now) }
+    {
+        match self {
+            Event::Boot {
+                boot,
+                time,
+                limit,
+                found,
+                boards,
+            } => Ok(Event::Boot {
+                boot: *boot,
+                time: *time,
+                limit: *limit,
+                found: *found,
+                boards: copied(alloc, boards)?,
+            }),
+            Event::Query { client, query } => Ok(Event::Query {
+                client: *client,
+                query: *query,
+            }),
+            Event::Ask {
+                client,
+                request,
+                pending,
+                answer,
+            } => Ok(Event::Ask {
+                client: *client,
+                request: *request,
+                pending: *pending,
+                answer: *answer,
+            }),
+            Event::Claim {
+                client,
+                request,
+                fetched,
+                answer,
+            } => Ok(Event::Claim {
+                client: *client,
+                request: *request,
+                fetched: *fetched,
+                answer: *answer,
+            }),
+            Event::Schedule {
+                client,
+                request,
+                answer,
+            } => Ok(Event::Schedule {
+                client: *client,
+                request: *request,
+                answer: *answer,
+            }),
+            Event::Resume {
+                client,
+                entry,
+                fetched,
+                answer,
+                stored,
+            } => Ok(Event::Resume {
+                client: *client,
+                entry: *entry,
+                fetched: *fetched,
+                answer: *answer,
+                stored: *stored,
+            }),
+            Event::Start { client, entry, op } => Ok(Event::Start {
+                client: *client,
+                entry: *entry,
+                op: *op,
+            }),
+            Event::End {
+                client,
+                entry,
+                op,
+                outcome,
+                told,
+                seen,
+            } => Ok(Event::End {
+                client: *client,
+                entry: *entry,
+                op: *op,
+                outcome: *outcome,
+                told: *told,
+                seen: *seen,
+            }),
+            Event::Finish {
+                client,
+                entry,
+                state,
+                stored,
+            } => Ok(Event::Finish {
+                client: *client,
+                entry: *entry,
+                state: *state,
+                stored: *stored,
+            }),
+            Event::Judge {
+                client,
+                entry,
+                version,
+                state,
+                stored,
+            } => Ok(Event::Judge {
+                client: *client,
+                entry: *entry,
+                version: *version,
+                state: *state,
+                stored: *stored,
+            }),
+            Event::Unplug {
+                client,
+                device,
+                answer,
+            } => Ok(Event::Unplug {
+                client: *client,
+                device: *device,
+                answer: *answer,
+            }),
+            Event::Plug {
+                client,
+                device,
+                answer,
+            } => Ok(Event::Plug {
+                client: *client,
+                device: *device,
+                answer: *answer,
+            }),
+            Event::GiveBack { client, what } => Ok(Event::GiveBack {
+                client: *client,
+                what: *what,
+            }),
+            Event::Cut => Ok(Event::Cut),
+        }
+    }
+}
+
+fn copied(alloc: Global, boards: &Listed<BoardSeen>) -> Result<Listed<BoardSeen>, NoMemory>
+    ensures { IfOk result (λ copy. copy ≡ boards.now) }
+{
+    Ok(Listed::of(Vec::from_slice(alloc, boards.items())?))
+}

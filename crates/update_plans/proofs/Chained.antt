@@ -28,12 +28,12 @@ device-of entries k None = refl
 device-of entries k (Some b) = refl
 
 -- the ID of the device at a place is that of its board, whatever happened
-device-now : (s : Scene) (past : List Event) (at : ℕ) → device_at (views s.facts s.opening past) at ≡ option_map_or (λ (b : Board). b.sheet.device) (slice_get (devices s.facts) at) []
+device-now : (s : Scene) (past : List Event) (at : ℕ) → device_at (views s.basis past) at ≡ option_map_or (λ (b : Board). b.sheet.device) (slice_get (devices s.basis.facts) at) []
 device-now s past at =
-    ap (λ (o : Option DeviceView). option_map_or (λ view. view.sheet.device) o []) (get-map (view_in (live past) (known s.facts s.opening past)) (devices s.facts) at)
-    ∙ device-of (live past) (known s.facts s.opening past) (slice_get (devices s.facts) at)
+    ap (λ (o : Option DeviceView). option_map_or (λ view. view.sheet.device) o []) (get-map (view_in (live past) (known s.basis past)) (devices s.basis.facts) at)
+    ∙ device-of (live past) (known s.basis past) (slice_get (devices s.basis.facts) at)
 
-pub device-stays : (s : Scene) (past now : List Event) (at : ℕ) → device_at (views s.facts s.opening now) at ≡ device_at (views s.facts s.opening past) at
+pub device-stays : (s : Scene) (past now : List Event) (at : ℕ) → device_at (views s.basis now) at ≡ device_at (views s.basis past) at
 device-stays s past now at = device-now s now at ∙ sym (device-now s past at)
 
 -- ---- a good step is installed

@@ -1,5 +1,5 @@
 -- The first good release above the version shown, of releases from the highest down, is the highest that may come next.
-use Rattle.std.proofs.Common.{◌≡◌, ℕ, zero, suc, ◌+◌, ◌<◌, ◌⊎◌, ◌&&◌, ◌||◌, ◌==◌, Bool, true, false, cond, not, nat_lt, List, [], ◌∷◌, ◌++◌, map, inl, inr, append_assoc, refl, sym, ap, ◌∙◌, subst, arith}
+use Rattle.std.proofs.Common.{◌≡◌, ℕ, zero, suc, ◌<◌, ◌⊎◌, ◌&&◌, ◌||◌, ◌==◌, Bool, true, false, cond, not, nat_lt, List, [], ◌∷◌, ◌++◌, map, inl, inr, append_assoc, refl, sym, ap, ◌∙◌, subst, arith}
 use Rattle.std.specs.Prelude.{All, AllPairs, Option, Some, None, filter, find, is_some, option_map, option_and_then, if◌then◌else◌}
 use Rattle.std.specs.Option.{option_map_or}
 use Rattle.std.specs.List.{AllByRecursion, list_any}
@@ -99,16 +99,16 @@ own-found (x ∷ xs) o = (
 -- None of the places behind one goes before it.
 abbrev pub Falls : Scene → List ReleaseRef → Type 0
 Falls s [] = Unit {0}
-Falls s (at ∷ rest) = AllByRecursion (λ r. goes_first s.facts r at ≡ false) rest × Falls s rest
+Falls s (at ∷ rest) = AllByRecursion (λ r. goes_first s.basis.facts r at ≡ false) rest × Falls s rest
 
 each-of : {X : Type 0} (P : X → Type 0) (xs : List X) → All P xs → AllByRecursion P xs
 each-of P [] a = tt
 each-of P (x ∷ xs) a = (a 0 x (omega arith), each-of P xs (λ k d within. a (suc k) d (omega (arith, within))))
 
-falls : (s : Scene) (xs : List ReleaseRef) → AllPairs (λ a b. goes_first s.facts b a ≡ false) xs → Falls s xs
+falls : (s : Scene) (xs : List ReleaseRef) → AllPairs (λ a b. goes_first s.basis.facts b a ≡ false) xs → Falls s xs
 falls s [] a = tt
 falls s (x ∷ xs) a = (
-  each-of (λ r. goes_first s.facts r x ≡ false) xs (λ k d within. a 0 (suc k) d (omega arith) (omega (arith, within))),
+  each-of (λ r. goes_first s.basis.facts r x ≡ false) xs (λ k d within. a 0 (suc k) d (omega arith) (omega (arith, within))),
   falls s xs (λ i j d l m. a (suc i) (suc j) d (omega (arith, l)) (omega (arith, m))),
 )
 
@@ -158,9 +158,9 @@ tried-there s number view shown past at more None h = cc
 tried-there s number view shown past at more (Some y) h = refl
 
 module _ (s : Scene) (number : ℕ) (device : List ℕ) (view : DeviceView) (shown : List ℕ) (past : List Event) (places : List ReleaseRef)
-    (here : view_of s device past ≡ Some view) (shows : version_of view ≡ Some shown) (sorted : IsHighestFirst s.facts (guids_of view) places) where
+    (here : view_of s device past ≡ Some view) (shows : version_of view ≡ Some shown) (sorted : IsHighestFirst s.basis.facts (guids_of view) places) where
   abbrev all : List Chosen
-  all = all_releases s.facts.catalogue
+  all = all_releases s.basis.facts.catalogue
 
   abbrev passes : Chosen → Bool
   passes = may_come s number view past
@@ -171,7 +171,7 @@ module _ (s : Scene) (number : ℕ) (device : List ℕ) (view : DeviceView) (sho
     inside : IsIn all y
 
   ones : AllByRecursion One all
-  ones = All-both (λ y. release_at s y.at ≡ Some y) (IsIn all) One all (own-found all (catalogue-ordered s.facts.catalogue)) (each-in all) (λ y o i. record { own = o; inside = i })
+  ones = All-both (λ y. release_at s y.at ≡ Some y) (IsIn all) One all (own-found all (catalogue-ordered s.basis.facts.catalogue)) (each-in all) (λ y o i. record { own = o; inside = i })
 
   -- what passes is above, and its step is good
   record Passes (y : Chosen) : Type 0 where
@@ -214,11 +214,11 @@ module _ (s : Scene) (number : ℕ) (device : List ℕ) (view : DeviceView) (sho
       let one : f.t.chosen ≡ y = f.chosen_is ∙ same in
       let provided : provides (guids_of view) y.component ≡ true =
       ap (λ (v : DeviceView). provides (guids_of v) y.component) (sym seen) ∙ ap (λ (c : Chosen). provides (guids_of f.t.view) c.component) (sym one) ∙ f.provided in
-      sym (list_any-IsPermutation (is_release y.at) (matching_places s.facts.catalogue (guids_of view)) places sorted.same)
+      sym (list_any-IsPermutation (is_release y.at) (matching_places s.basis.facts.catalogue (guids_of view)) places sorted.same)
       ∙ any-matching (guids_of view) y.at all (o.inside (λ z. provides (guids_of view) z.component && is_release y.at z.at) (rw (provided, same-self y.at) refl))
     where
       device-own : view.sheet.device ≡ device
-      device-own = bytes-same view.sheet.device device (find-passes (has_id device) (views s.facts s.opening past) view here)
+      device-own = bytes-same view.sheet.device device (find-passes (has_id device) (views s.basis past) view here)
 
   -- ---- places that were tried
 
@@ -229,38 +229,38 @@ module _ (s : Scene) (number : ℕ) (device : List ℕ) (view : DeviceView) (sho
   none-next : AllByRecursion Fails places → next_step s number device past ≡ None
   unfolding next_step
   none-next fail =
-      ap (option_and_then (λ view. option_and_then (step_of view) (highest (filter (may_come s number view past) (all_releases s.facts.catalogue))))) here
+      ap (option_and_then (λ view. option_and_then (step_of view) (highest (filter (may_come s number view past) (all_releases s.basis.facts.catalogue))))) here
       ∙ ap (option_and_then (step_of view)) (highest-none passes all (All-map One (λ y. passes y ≡ false) all ones none))
     where
       none : (y : Chosen) → One y → passes y ≡ false
       none y o = by_test (passes y) _ (λ t. among Fails places y.at fail (listed y o t) y o.own) (λ f. f)
 
   -- a place whose version isn't above the one shown, and those behind it
-  below : (at : ReleaseRef) → is_gt (version_cmp (version_at s.facts at) shown) ≡ false → Fails at
+  below : (at : ReleaseRef) → is_gt (version_cmp (version_at s.basis.facts at) shown) ≡ false → Fails at
   below at h y own = by_test (passes y) _ (λ t. let p = passing y t in let bad : true ≡ false = sym (ap (λ (v : List ℕ). is_gt (version_cmp v shown)) (version-there at y own) ∙ p.above) ∙ h in cc) (λ f. f)
     where
-      version-there : (at : ReleaseRef) (y : Chosen) → release_at s at ≡ Some y → version_at s.facts at ≡ y.release.version
+      version-there : (at : ReleaseRef) (y : Chosen) → release_at s at ≡ Some y → version_at s.basis.facts at ≡ y.release.version
       version-there at y own = ap (λ (f : Option Chosen). option_map_or (λ chosen. chosen.release.version) f []) own
 
-  found-own : (at : ReleaseRef) (y : Chosen) → release_at s at ≡ Some y → version_found s.facts at ≡ Some y.release.version
+  found-own : (at : ReleaseRef) (y : Chosen) → release_at s at ≡ Some y → version_found s.basis.facts at ≡ Some y.release.version
   found-own at y own = ap (option_map (λ (chosen : Chosen). chosen.release.version)) own
 
   -- whether a release has a higher version than another
-  higher-own : (a b : ReleaseRef) (y z : Chosen) → release_at s a ≡ Some y → release_at s b ≡ Some z → is_higher s.facts a b ≡ is_lt (version_cmp z.release.version y.release.version)
+  higher-own : (a b : ReleaseRef) (y z : Chosen) → release_at s a ≡ Some y → release_at s b ≡ Some z → is_higher s.basis.facts a b ≡ is_lt (version_cmp z.release.version y.release.version)
   higher-own a b y z own other =
-      ap (λ (v : Option (List ℕ)). is_lt (found_cmp v (version_found s.facts a))) (found-own b z other)
+      ap (λ (v : Option (List ℕ)). is_lt (found_cmp v (version_found s.basis.facts a))) (found-own b z other)
       ∙ ap (λ (v : Option (List ℕ)). is_lt (found_cmp (Some z.release.version) v)) (found-own a y own)
 
   -- one that doesn't go before another has no higher version
-  not-higher : (at r : ReleaseRef) (x y : Chosen) → release_at s at ≡ Some x → release_at s r ≡ Some y → goes_first s.facts r at ≡ false → is_le (version_cmp y.release.version x.release.version) ≡ true
+  not-higher : (at r : ReleaseRef) (x y : Chosen) → release_at s at ≡ Some x → release_at s r ≡ Some y → goes_first s.basis.facts r at ≡ false → is_le (version_cmp y.release.version x.release.version) ≡ true
   not-higher at r x y own other g =
-      let parts = or_parts (is_higher s.facts r at) (not (is_higher s.facts at r) && comes_before r at) g in
+      let parts = or_parts (is_higher s.basis.facts r at) (not (is_higher s.basis.facts at r) && comes_before r at) g in
       back-le x.release.version y.release.version (sym (higher-own r at y x other own) ∙ parts.0)
 
-  below-all : (at : ReleaseRef) (rest : List ReleaseRef) (x : Chosen) → release_at s at ≡ Some x → Falls s (at ∷ rest) → is_gt (version_cmp (version_at s.facts at) shown) ≡ false → AllByRecursion Fails (at ∷ rest)
+  below-all : (at : ReleaseRef) (rest : List ReleaseRef) (x : Chosen) → release_at s at ≡ Some x → Falls s (at ∷ rest) → is_gt (version_cmp (version_at s.basis.facts at) shown) ≡ false → AllByRecursion Fails (at ∷ rest)
   below-all at rest x own f h = (
     below at h,
-    All-map (λ r. goes_first s.facts r at ≡ false) Fails rest f.0 (λ r g y other. lower-fails r y other (not-higher at r x y own other g)),
+    All-map (λ r. goes_first s.basis.facts r at ≡ false) Fails rest f.0 (λ r g y other. lower-fails r y other (not-higher at r x y own other g)),
   )
     where
       low : is_le (version_cmp x.release.version shown) ≡ true
@@ -282,7 +282,7 @@ module _ (s : Scene) (number : ℕ) (device : List ℕ) (view : DeviceView) (sho
   chosen-highest : (front rest : List ReleaseRef) (at : ReleaseRef) → front ++ at ∷ rest ≡ places → AllByRecursion Fails front → Falls s (at ∷ rest) → (y : Chosen) → release_at s at ≡ Some y → passes y ≡ true
       → highest (filter passes all) ≡ Some y
   chosen-highest front rest at whole fail f y own h =
-      let parts : Parted all y = parted all at y (catalogue-ordered s.facts.catalogue) own in
+      let parts : Parted all y = parted all at y (catalogue-ordered s.basis.facts.catalogue) own in
       highest-is passes all y parts h
       (front-lower parts)
       (All-map One (λ z. passes z ≡ true → is_lt (version_cmp y.release.version z.release.version) ≡ false) all ones (λ z o t. not-above z o t))
@@ -291,23 +291,23 @@ module _ (s : Scene) (number : ℕ) (device : List ℕ) (view : DeviceView) (sho
       at-is = release-same y.at at (find-passes (λ (c : Chosen). is_release c.at at) all y own)
 
       -- what passes is the one or stands behind it in the list
-      behind : (z : Chosen) → One z → passes z ≡ true → (z.at ≡ at) ⊎ (goes_first s.facts z.at at ≡ false)
+      behind : (z : Chosen) → One z → passes z ≡ true → (z.at ≡ at) ⊎ (goes_first s.basis.facts z.at at ≡ false)
       behind z o t =
           let there : list_any (is_release z.at) (front ++ at ∷ rest) ≡ true = ap (list_any (is_release z.at)) whole ∙ listed z o t in
           of (or_cases (list_any (is_release z.at) front) (list_any (is_release z.at) (at ∷ rest)) (sym (list_any-append (is_release z.at) front (at ∷ rest)) ∙ there))
         where
-          in-rest : (is_release z.at at ≡ true) ⊎ (list_any (is_release z.at) rest ≡ true) → (z.at ≡ at) ⊎ (goes_first s.facts z.at at ≡ false)
+          in-rest : (is_release z.at at ≡ true) ⊎ (list_any (is_release z.at) rest ≡ true) → (z.at ≡ at) ⊎ (goes_first s.basis.facts z.at at ≡ false)
           in-rest (inl e) = inl (release-same z.at at e)
-          in-rest (inr e) = inr (among (λ r. goes_first s.facts r at ≡ false) rest z.at f.0 e)
+          in-rest (inr e) = inr (among (λ r. goes_first s.basis.facts r at ≡ false) rest z.at f.0 e)
 
-          of : (list_any (is_release z.at) front ≡ true) ⊎ (list_any (is_release z.at) (at ∷ rest) ≡ true) → (z.at ≡ at) ⊎ (goes_first s.facts z.at at ≡ false)
+          of : (list_any (is_release z.at) front ≡ true) ⊎ (list_any (is_release z.at) (at ∷ rest) ≡ true) → (z.at ≡ at) ⊎ (goes_first s.basis.facts z.at at ≡ false)
           of (inl e) = let fails : passes z ≡ false = among Fails front z.at fail e z o.own in let bad : true ≡ false = sym t ∙ fails in cc
           of (inr e) = in-rest (or_cases (is_release z.at at) (list_any (is_release z.at) rest) e)
 
       not-above : (z : Chosen) → One z → passes z ≡ true → is_lt (version_cmp y.release.version z.release.version) ≡ false
       not-above z o t = of (behind z o t)
         where
-          of : (z.at ≡ at) ⊎ (goes_first s.facts z.at at ≡ false) → is_lt (version_cmp y.release.version z.release.version) ≡ false
+          of : (z.at ≡ at) ⊎ (goes_first s.basis.facts z.at at ≡ false) → is_lt (version_cmp y.release.version z.release.version) ≡ false
           of (inl e) =
               let same : z ≡ y = same_Some _ _ (sym o.own ∙ ap (release_at s) e ∙ own) in
               ap (λ (c : Chosen). is_lt (version_cmp y.release.version c.release.version)) same ∙ ap is_lt (version_cmp-reflexive y.release.version)
@@ -321,15 +321,15 @@ module _ (s : Scene) (number : ℕ) (device : List ℕ) (view : DeviceView) (sho
           before-at = ap (comes_before z.at) (sym at-is) ∙ before
 
           -- the part of the order that is left: it isn't the higher one, and stands before it
-          is-lower : (h : Bool) → is_higher s.facts at z.at ≡ h → (not h && comes_before z.at at) ≡ false → is_lt (version_cmp z.release.version y.release.version) ≡ true
+          is-lower : (h : Bool) → is_higher s.basis.facts at z.at ≡ h → (not h && comes_before z.at at) ≡ false → is_lt (version_cmp z.release.version y.release.version) ≡ true
           is-lower true e g = sym (higher-own at z.at y z own o.own) ∙ e
           is-lower false e g = let bad : true ≡ false = sym before-at ∙ g in cc
 
-          of : (z.at ≡ at) ⊎ (goes_first s.facts z.at at ≡ false) → is_lt (version_cmp z.release.version y.release.version) ≡ true
+          of : (z.at ≡ at) ⊎ (goes_first s.basis.facts z.at at ≡ false) → is_lt (version_cmp z.release.version y.release.version) ≡ true
           of (inl e) = let bad : comes_before at at ≡ true = ap (λ (r : ReleaseRef). comes_before r at) (sym e) ∙ before-at in absurd (before-once at at bad bad)
           of (inr g) =
-              let parts = or_parts (is_higher s.facts z.at at) (not (is_higher s.facts at z.at) && comes_before z.at at) g in
-              is-lower (is_higher s.facts at z.at) refl parts.1
+              let parts = or_parts (is_higher s.basis.facts z.at at) (not (is_higher s.basis.facts at z.at) && comes_before z.at at) g in
+              is-lower (is_higher s.basis.facts at z.at) refl parts.1
 
       front-of : {X : Type 0} (P : X → Type 0) (xs ys : List X) → AllByRecursion P (xs ++ ys) → AllByRecursion P xs
       front-of P [] ys a = tt
@@ -343,10 +343,10 @@ module _ (s : Scene) (number : ℕ) (device : List ℕ) (view : DeviceView) (sho
   next-is : (y : Chosen) (step : PlanStep) → highest (filter passes all) ≡ Some y → step_of view y ≡ Some step → next_step s number device past ≡ Some step
   unfolding next_step
   next-is y step h e =
-      ap (option_and_then (λ view. option_and_then (step_of view) (highest (filter (may_come s number view past) (all_releases s.facts.catalogue))))) here ∙ ap (option_and_then (step_of view)) h ∙ e
+      ap (option_and_then (λ view. option_and_then (step_of view) (highest (filter (may_come s number view past) (all_releases s.basis.facts.catalogue))))) here ∙ ap (option_and_then (step_of view)) h ∙ e
 
   -- the code's step is the one of the release that stands there
-  good-of : (at : ReleaseRef) (y : Chosen) → release_at s at ≡ Some y → good_step s number view at (version_at s.facts at) past ≡ option_and_then (where_good s number past) (step_of view y)
+  good-of : (at : ReleaseRef) (y : Chosen) → release_at s at ≡ Some y → good_step s number view at (version_at s.basis.facts at) past ≡ option_and_then (where_good s number past) (step_of view y)
   good-of at y own =
       ap (λ (v : List ℕ). good_step s number view at v past) (ap (λ (h : Option Chosen). option_map_or (λ chosen. chosen.release.version) h []) own)
       ∙ ap (λ (r : ReleaseRef). good_step s number view r y.release.version past) (sym (release-same y.at at (find-passes (λ (c : Chosen). is_release c.at at) all y own)))
@@ -357,7 +357,7 @@ module _ (s : Scene) (number : ℕ) (device : List ℕ) (view : DeviceView) (sho
       swap None = refl
       swap (Some raw) = refl
 
-  no-good : (at : ReleaseRef) → good_step s number view at (version_at s.facts at) past ≡ None → Fails at
+  no-good : (at : ReleaseRef) → good_step s number view at (version_at s.basis.facts at) past ≡ None → Fails at
   no-good at e y own =
       by_test (passes y) _
       (λ t.
@@ -380,8 +380,8 @@ module _ (s : Scene) (number : ℕ) (device : List ℕ) (view : DeviceView) (sho
       of true i e = record { that = e; good = subst (λ (z : PlanStep). is_good s number z past ≡ true) (same_Some _ _ e) i }
       of false i e = cc
 
-  is-next : (front rest : List ReleaseRef) (at : ReleaseRef) → front ++ at ∷ rest ≡ places → AllByRecursion Fails front → Falls s (at ∷ rest) → is_gt (version_cmp (version_at s.facts at) shown) ≡ true
-      → (y : Chosen) → release_at s at ≡ Some y → (step : PlanStep) → good_step s number view at (version_at s.facts at) past ≡ Some step → next_step s number device past ≡ Some step
+  is-next : (front rest : List ReleaseRef) (at : ReleaseRef) → front ++ at ∷ rest ≡ places → AllByRecursion Fails front → Falls s (at ∷ rest) → is_gt (version_cmp (version_at s.basis.facts at) shown) ≡ true
+      → (y : Chosen) → release_at s at ≡ Some y → (step : PlanStep) → good_step s number view at (version_at s.basis.facts at) past ≡ Some step → next_step s number device past ≡ Some step
   is-next front rest at whole fail f g y own step e =
       let i : IsThat (step_of view y) step = is-that (step_of view y) step (sym (good-of at y own) ∙ e) in
       let pass : passes y ≡ true =
@@ -401,37 +401,37 @@ module _ (s : Scene) (number : ℕ) (device : List ℕ) (view : DeviceView) (sho
   tried-on front [] whole fail f there = sym (none-next (subst (AllByRecursion Fails) (sym (append-nil front) ∙ whole) fail))
   tried-on front (at ∷ rest) whole fail f there =
       tried-there s number view shown past at (tried s number view shown past rest) (release_at s at) there.0
-      ∙ of (is_gt (version_cmp (version_at s.facts at) shown)) refl
+      ∙ of (is_gt (version_cmp (version_at s.basis.facts at) shown)) refl
       (λ fails. tried-on (front ++ at ∷ []) rest (append_assoc front (at ∷ []) rest ∙ whole) (All-push Fails front at fail fails) f.1 there.1)
     where
       More : Type 0
       More = Fails at → tried s number view shown past rest ≡ next_step s number device past
 
-      below-so : (o : Option Chosen) → release_at s at ≡ o → is_some o ≡ true → is_gt (version_cmp (version_at s.facts at) shown) ≡ false → AllByRecursion Fails (at ∷ rest)
+      below-so : (o : Option Chosen) → release_at s at ≡ o → is_some o ≡ true → is_gt (version_cmp (version_at s.basis.facts at) shown) ≡ false → AllByRecursion Fails (at ∷ rest)
       below-so None own t g = cc
       below-so (Some x) own t g = below-all at rest x own f g
 
-      there-is : (o : Option Chosen) → release_at s at ≡ o → is_some o ≡ true → is_gt (version_cmp (version_at s.facts at) shown) ≡ true → (step : PlanStep)
-          → good_step s number view at (version_at s.facts at) past ≡ Some step → Some step ≡ next_step s number device past
+      there-is : (o : Option Chosen) → release_at s at ≡ o → is_some o ≡ true → is_gt (version_cmp (version_at s.basis.facts at) shown) ≡ true → (step : PlanStep)
+          → good_step s number view at (version_at s.basis.facts at) past ≡ Some step → Some step ≡ next_step s number device past
       there-is None own t g step e = cc
       there-is (Some y) own t g step e = sym (is-next front rest at whole fail f g y own step e)
 
-      good : (o : Option PlanStep) → good_step s number view at (version_at s.facts at) past ≡ o → is_gt (version_cmp (version_at s.facts at) shown) ≡ true → More
+      good : (o : Option PlanStep) → good_step s number view at (version_at s.basis.facts at) past ≡ o → is_gt (version_cmp (version_at s.basis.facts at) shown) ≡ true → More
           → first_some o (tried s number view shown past rest) ≡ next_step s number device past
       good None e g more = more (no-good at e)
       good (Some step) e g more = there-is (release_at s at) refl there.0 g step e
 
-      of : (b : Bool) → is_gt (version_cmp (version_at s.facts at) shown) ≡ b → More
-          → (if b then first_some (good_step s number view at (version_at s.facts at) past) (tried s number view shown past rest) else None) ≡ next_step s number device past
-      of true g more = good (good_step s number view at (version_at s.facts at) past) refl g more
+      of : (b : Bool) → is_gt (version_cmp (version_at s.basis.facts at) shown) ≡ b → More
+          → (if b then first_some (good_step s number view at (version_at s.basis.facts at) past) (tried s number view shown past rest) else None) ≡ next_step s number device past
+      of true g more = good (good_step s number view at (version_at s.basis.facts at) past) refl g more
       of false g more = sym (none-next (subst (AllByRecursion Fails) whole (All-append Fails front (at ∷ rest) fail (below-so (release_at s at) refl there.0 g))))
 
   -- a release stands at each of the places
   all-there : AllByRecursion (λ at. is_some (release_at s at) ≡ true) places
   all-there =
       each-of There places
-      (All-permutation There (matching_places s.facts.catalogue (guids_of view)) places sorted.same
-      (of-each There (matching_places s.facts.catalogue (guids_of view))
+      (All-permutation There (matching_places s.basis.facts.catalogue (guids_of view)) places sorted.same
+      (of-each There (matching_places s.basis.facts.catalogue (guids_of view))
       (each-mapped There (λ (chosen : Chosen). chosen.at) (filter (λ chosen. provides (guids_of view) chosen.component) all)
       (All-filter One (λ y. There y.at) (λ chosen. provides (guids_of view) chosen.component) all ones (λ y o t. ap (λ (x : Option Chosen). is_some x) o.own)))))
     where
@@ -446,8 +446,8 @@ module _ (s : Scene) (number : ℕ) (device : List ℕ) (view : DeviceView) (sho
 pub none_shown : (s : Scene) (number : ℕ) (device : List ℕ) (view : DeviceView) (past : List Event) → view_of s device past ≡ Some view → version_of view ≡ None → next_step s number device past ≡ None
 unfolding next_step
 none_shown s number device view past here none =
-    ap (option_and_then (λ view. option_and_then (step_of view) (highest (filter (may_come s number view past) (all_releases s.facts.catalogue))))) here
-    ∙ ap (option_and_then (step_of view)) (highest-none (may_come s number view past) (all_releases s.facts.catalogue) (fails (all_releases s.facts.catalogue)))
+    ap (option_and_then (λ view. option_and_then (step_of view) (highest (filter (may_come s number view past) (all_releases s.basis.facts.catalogue))))) here
+    ∙ ap (option_and_then (step_of view)) (highest-none (may_come s number view past) (all_releases s.basis.facts.catalogue) (fails (all_releases s.basis.facts.catalogue)))
   where
     fails : (xs : List Chosen) → AllByRecursion (λ y. may_come s number view past y ≡ false) xs
     fails [] = tt

@@ -100,9 +100,9 @@ module _ (facts : Facts) (views : List DeviceView) (rows : List Row) (live : Lis
 
 -- The same of a step's claim behind its ask.
 pub accepted_twice : (s : Scene) (number : ℕ) (step : PlanStep) (chosen : Chosen) (past : List Event)
-    → accepts step.release (verdict s.facts s.opening past s.client (request_of s number step chosen) Stage.Ask) ≡ true
-    → accepts step.release (verdict s.facts s.opening (asked s number step chosen past) s.client (request_of s number step chosen) (Stage.Claim step.release))
-    ≡ nat_lt (length (rows s.facts s.opening past)) 65536
+    → accepts step.release (verdict s.basis past s.client (request_of s number step chosen) Stage.Ask) ≡ true
+    → accepts step.release (verdict s.basis (asked s number step chosen past) s.client (request_of s number step chosen) (Stage.Claim step.release))
+    ≡ nat_lt (length (rows s.basis past)) 65536
 accepted_twice s number step chosen past h =
-    decided-claim s.facts (views s.facts s.opening past) (rows s.facts s.opening past) (live past) (held past) (held (asked s number step chosen past)) s.client
+    decided-claim s.basis.facts (views s.basis past) (rows s.basis past) (live past) (held past) (held (asked s number step chosen past)) s.client
     (request_of s number step chosen) step.release h

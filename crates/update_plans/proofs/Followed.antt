@@ -41,7 +41,7 @@ use Rattle.update_log.specs.Holding.{blocks_of, blocks_out, held, holds, live}
 use Rattle.update_log.specs.Known.{Target, flags_number, is_on, known, new_row, row_of, rows, seen, target, view_of as view_in, views}
 use Rattle.update_log.specs.Legal.{IsLegal, UnchangedExactly, closing_stored, next_entry}
 use Rattle.update_log.specs.Pasts.{is_fault, off, time_of}
-use Rattle.update_log.specs.Shows.{Campaign}
+use Rattle.update_log.specs.Shows.{campaign_on, Campaign}
 use Rattle.update_log.specs.Steps.{all_ops, closing, closing_of, ended_well, judge_shown, mode_of, waits_for_boot}
 use Rattle.update_log.specs.Verdicts.{Case, case_of, decided, shown_by, verdict, where_so}
 use Rattle.update_log.proofs.Accepts.{none-refuses}
@@ -114,16 +114,16 @@ has-sheets facts =
 
 -- The rows and the time are the same, nothing is out, and each board shows the same, but perhaps another raw number.
 pub record Same (s : Scene) (p q : List Event) : Type 0 where
-  pub rows_are : rows s.facts s.opening p ≡ rows s.facts s.opening q
+  pub rows_are : rows s.basis p ≡ rows s.basis q
   pub time_is : time_of p ≡ time_of q
   pub live_one : live p ≡ []
   pub live_other : live q ≡ []
   pub hold_one : holds p ≡ []
   pub hold_other : holds q ≡ []
-  pub shown : (n : ℕ) (sheet : Sheet) → slice_get s.facts.sheets n ≡ Some sheet → LikeSeen sheet (seen s.facts s.opening p n) (seen s.facts s.opening q n)
+  pub shown : (n : ℕ) (sheet : Sheet) → slice_get s.basis.facts.sheets n ≡ Some sheet → LikeSeen sheet (seen s.basis p n) (seen s.basis q n)
 
 module _ (s : Scene) (p q : List Event) (same : Same s p q) where
-  view-like : (b : Board) → HasSheet s.facts b → Like (view_in (live p) (known s.facts s.opening p) b) (view_in (live q) (known s.facts s.opening q) b)
+  view-like : (b : Board) → HasSheet s.basis.facts b → Like (view_in (live p) (known s.basis p) b) (view_in (live q) (known s.basis q) b)
   view-like b has =
       let l = same.shown b.number b.sheet has in
       record {
@@ -135,27 +135,27 @@ module _ (s : Scene) (p q : List Event) (same : Same s p q) where
         flags = l.flags;
       }
     where
-      no-claim : (past : List Event) → live past ≡ [] → option_map (λ (l : LiveEntry). l.entry) (find (is_on (rows s.facts s.opening past) b.sheet.device) (live past)) ≡ None
-      no-claim past e = ap (λ (ls : List LiveEntry). option_map (λ (l : LiveEntry). l.entry) (find (is_on (rows s.facts s.opening past) b.sheet.device) ls)) e
+      no-claim : (past : List Event) → live past ≡ [] → option_map (λ (l : LiveEntry). l.entry) (find (is_on (rows s.basis past) b.sheet.device) (live past)) ≡ None
+      no-claim past e = ap (λ (ls : List LiveEntry). option_map (λ (l : LiveEntry). l.entry) (find (is_on (rows s.basis past) b.sheet.device) ls)) e
 
-  all-like : (bs : List Board) → AllByRecursion (HasSheet s.facts) bs
-      → AllLike (map (view_in (live p) (known s.facts s.opening p)) bs) (map (view_in (live q) (known s.facts s.opening q)) bs)
+  all-like : (bs : List Board) → AllByRecursion (HasSheet s.basis.facts) bs
+      → AllLike (map (view_in (live p) (known s.basis p)) bs) (map (view_in (live q) (known s.basis q)) bs)
   all-like [] a = tt
   all-like (b ∷ bs) a = (view-like b a.0, all-like bs a.1)
 
-  pub views-like : AllLike (views s.facts s.opening p) (views s.facts s.opening q)
-  views-like = all-like (devices s.facts) (has-sheets s.facts)
+  pub views-like : AllLike (views s.basis p) (views s.basis q)
+  views-like = all-like (devices s.basis.facts) (has-sheets s.basis.facts)
 
   -- So the same is decided of every request.
-  pub verdict-like : (client : ℕ) (request : Request) (stage : Stage) → verdict s.facts s.opening p client request stage ≡ verdict s.facts s.opening q client request stage
+  pub verdict-like : (client : ℕ) (request : Request) (stage : Stage) → verdict s.basis p client request stage ≡ verdict s.basis q client request stage
   verdict-like client request stage =
-      decided-like s.facts (views s.facts s.opening p) (views s.facts s.opening q) views-like (rows s.facts s.opening p) (live p) (held p) client request stage
+      decided-like s.basis.facts (views s.basis p) (views s.basis q) views-like (rows s.basis p) (live p) (held p) client request stage
       ∙ ap (λ (rs : List Row). decided (about rs (live p) (held p))) same.rows_are
-      ∙ ap (λ (ls : List LiveEntry). decided (about (rows s.facts s.opening q) ls (held p))) (same.live_one ∙ sym same.live_other)
-      ∙ ap (λ (n : ℕ). decided (about (rows s.facts s.opening q) (live q) n)) held-same
+      ∙ ap (λ (ls : List LiveEntry). decided (about (rows s.basis q) ls (held p))) (same.live_one ∙ sym same.live_other)
+      ∙ ap (λ (n : ℕ). decided (about (rows s.basis q) (live q) n)) held-same
     where
       about : List Row → List LiveEntry → ℕ → Case
-      about rs ls n = record { facts = s.facts; views = views s.facts s.opening q; rows = rs; live = ls; held = n; client = client; request = request; stage = stage }
+      about rs ls n = record { facts = s.basis.facts; views = views s.basis q; rows = rs; live = ls; held = n; client = client; request = request; stage = stage }
 
       held-same : held p ≡ held q
       held-same = ap (λ (hs : List Held). blocks_out hs (live p)) (same.hold_one ∙ sym same.hold_other) ∙ ap (blocks_out (holds q)) (same.live_one ∙ sym same.live_other)
@@ -207,9 +207,9 @@ stored-yes _ _ u h f = cc
 
 -- ---- a log and the events behind it
 
-legal-before : (c : Campaign) (opening : List Row) (events base : List Event) → IsLegal c opening (events ++ base) → IsLegal c opening base
-legal-before c opening [] base l = l
-legal-before c opening (event ∷ events) base l = legal-before c opening events base l.0
+legal-before : (c : Campaign) (events base : List Event) → IsLegal c (events ++ base) → IsLegal c base
+legal-before c [] base l = l
+legal-before c (event ∷ events) base l = legal-before c events base l.0
 
 -- ---- one play more
 
@@ -251,7 +251,7 @@ row-like entry time client request state a t m = ap (λ (sheet : Sheet). told sh
 module _ (s : Scene) (first : List Seen) (plans : List BootPlan) (number : ℕ) (step : PlanStep) (chosen : Chosen) (p q : List Event) (same : Same s p q) (quiet : IsQuiet s q) (there : release_at s step.release ≡ Some chosen)
     (good : is_good_with s number step q chosen ≡ true) where
   abbrev c : Campaign
-  c = record { facts = s.facts; first = first; plans = plans }
+  c = campaign_on s.basis first plans
 
   abbrev asks : Request
   asks = request_of s number step chosen
@@ -270,14 +270,14 @@ module _ (s : Scene) (first : List Seen) (plans : List BootPlan) (number : ℕ) 
   on-device : IsOf s step.device b
   on-device = (board s number step chosen q quiet f).1
 
-  has-b : slice_get s.facts.sheets b.number ≡ Some b.sheet
-  has-b = All-find (HasSheet s.facts) (λ (x : Board). bytes_eq x.sheet.device step.device) (devices s.facts) b (has-sheets s.facts) on-device
+  has-b : slice_get s.basis.facts.sheets b.number ≡ Some b.sheet
+  has-b = All-find (HasSheet s.basis.facts) (λ (x : Board). bytes_eq x.sheet.device step.device) (devices s.basis.facts) b (has-sheets s.basis.facts) on-device
 
-  fresh-q : row_of (rows s.facts s.opening q) (next_entry s.facts s.opening q) ≡ None
-  fresh-q = let k = kept s number step chosen q quiet f in row_of-past 1 (rows s.facts s.opening q) (next_entry s.facts s.opening q) k.rows_kept.valid.entries (omega arith)
+  fresh-q : row_of (rows s.basis q) (next_entry s.basis q) ≡ None
+  fresh-q = let k = kept s number step chosen q quiet f in row_of-past 1 (rows s.basis q) (next_entry s.basis q) k.rows_kept.valid.entries (omega arith)
 
-  whole-q : Steps s (next_entry s.facts s.opening q) (taken s number step chosen (asked s number step chosen q)) (done s number step chosen q)
-  whole-q = with-steps s step chosen (next_entry s.facts s.opening q) all_ops (taken s number step chosen (asked s number step chosen q))
+  whole-q : Steps s (next_entry s.basis q) (taken s number step chosen (asked s number step chosen q)) (done s number step chosen q)
+  whole-q = with-steps s step chosen (next_entry s.basis q) all_ops (taken s number step chosen (asked s number step chosen q))
 
   abbrev fetched-q : FetchNote
   fetched-q = FetchNote.Whole chosen.release.digest chosen.release.size step.raw
@@ -286,18 +286,18 @@ module _ (s : Scene) (first : List Seen) (plans : List BootPlan) (number : ℕ) 
   last-q = whole-q.steps ++ taken s number step chosen (asked s number step chosen q)
 
   abbrev row-q : Row
-  row-q = new_row (next_entry s.facts s.opening q) (time_of q) s.client asks RowState.Begun f.t
+  row-q = new_row (next_entry s.basis q) (time_of q) s.client asks RowState.Begun f.t
 
   abbrev ended-q : List Event
-  ended-q = Event.Finish s.client (next_entry s.facts s.opening q) (end_of s number step chosen q) Stored.Yes ∷ last-q
+  ended-q = Event.Finish s.client (next_entry s.basis q) (end_of s number step chosen q) Stored.Yes ∷ last-q
 
   ended-q-is : installed_with s number step chosen q ≡ ended-q
-  ended-q-is = ap (λ (events : List Event). Event.Finish s.client (next_entry s.facts s.opening q) (end_of s number step chosen q) Stored.Yes ∷ events) whole-q.whole_is
+  ended-q-is = ap (λ (events : List Event). Event.Finish s.client (next_entry s.basis q) (end_of s number step chosen q) Stored.Yes ∷ events) whole-q.whole_is
 
   device-q : f.t.view.sheet.device ≡ step.device
   device-q = device-is s number step chosen q quiet f
 
-  made-q : Made s q ended-q b row-q (next_entry s.facts s.opening q) (end_of s number step chosen q)
+  made-q : Made s q ended-q b row-q (next_entry s.basis q) (end_of s number step chosen q)
   made-q =
       made s number step chosen q same.hold_other same.live_other fresh-q f.t f.target_is b on-device device-q (blocks_of chosen.release.size) step.release fetched-q whole-q.steps whole-q.are
       (end_of s number step chosen q)
@@ -306,14 +306,14 @@ module _ (s : Scene) (first : List Seen) (plans : List BootPlan) (number : ℕ) 
   record Ends : Type 0 where
     raw : ℕ
     mode : Mode
-    shows : seen s.facts s.opening last-q b.number ≡ Seen.Home raw mode
+    shows : seen s.basis last-q b.number ≡ Seen.Home raw mode
     keeps : has_flag DeviceFlag.NeedsReboot (flags_of f.t.view) ≡ true → version_of f.t.view ≡ Some (render b.sheet.format raw)
 
   ends-q : Ends
   ends-q =
       let g = goes-whole s number step chosen q quiet f tested.claimed_so in
-      let seen-last : seen s.facts s.opening last-q b.number ≡ (cleaned s number step chosen q quiet f).seen =
-      ap (λ (past : List Event). seen s.facts s.opening past b.number) (sym whole-q.whole_is) ∙ g.seen_is in
+      let seen-last : seen s.basis last-q b.number ≡ (cleaned s number step chosen q quiet f).seen =
+      ap (λ (past : List Event). seen s.basis past b.number) (sym whole-q.whole_is) ∙ g.seen_is in
       record {
         raw = g.raw;
         mode = g.mode;
@@ -338,7 +338,7 @@ module _ (s : Scene) (first : List Seen) (plans : List BootPlan) (number : ℕ) 
   abbrev text : List ℕ
   text = render b.sheet.format ends-q.raw
 
-  text-q : version_shown b.sheet (seen s.facts s.opening last-q b.number) ≡ Some text
+  text-q : version_shown b.sheet (seen s.basis last-q b.number) ≡ Some text
   text-q = ap (version_shown b.sheet) ends-q.shows
 
   -- a device that needs a boot doesn't show the new version yet
@@ -346,7 +346,7 @@ module _ (s : Scene) (first : List Seen) (plans : List BootPlan) (number : ℕ) 
   not-yet waits =
       same_version-back text f.t.chosen.release.version
       ∙ ap (same_version f.t.chosen.release.version) (sym (ap (λ (o : Option (List ℕ)). unwrap_or o []) (ends-q.keeps waits)))
-      ∙ refused (same_version f.t.chosen.release.version (shown_by f.t)) (let none = none-refuses (case_of s.facts s.opening q s.client asks Stage.Ask) f.t f.free in none.is_installed)
+      ∙ refused (same_version f.t.chosen.release.version (shown_by f.t)) (let none = none-refuses (case_of s.basis q s.client asks Stage.Ask) f.t f.free in none.is_installed)
     where
       refused : (x : Bool) → where_so (x && not false) Refusal.SameVersion ≡ None → x ≡ false
       refused true e = cc
@@ -358,12 +358,12 @@ module _ (s : Scene) (first : List Seen) (plans : List BootPlan) (number : ℕ) 
   end-q : end_of s number step chosen q ≡ settled (has_flag DeviceFlag.NeedsReboot (flags_of f.t.view)) (ended_well Op.Write closes-q.t_last.steps) (same_version text f.t.chosen.release.version)
   end-q =
       closing-q
-      ∙ closes-settled closes-q.t_last row-q (view_in (live last-q) (known s.facts s.opening last-q) b) text text-q (sym (ap is_ended closing-q) ∙ tested.ended_so)
+      ∙ closes-settled closes-q.t_last row-q (view_in (live last-q) (known s.basis last-q) b) text text-q (sym (ap is_ended closing-q) ∙ tested.ended_so)
       ∙ ap (λ (flags : List Bool). settled (has_flag DeviceFlag.NeedsReboot flags) (ended_well Op.Write closes-q.t_last.steps) (same_version text f.t.chosen.release.version)) closes-q.flags_are
     where
-      closing-q : end_of s number step chosen q ≡ closing_of closes-q.t_last row-q (view_in (live last-q) (known s.facts s.opening last-q) b)
+      closing-q : end_of s number step chosen q ≡ closing_of closes-q.t_last row-q (view_in (live last-q) (known s.basis last-q) b)
       closing-q =
-          ap (λ (past : List Event). unwrap_or (closing s.facts s.opening past (next_entry s.facts s.opening q)) RowState.Begun) whole-q.whole_is
+          ap (λ (past : List Event). unwrap_or (closing s.basis past (next_entry s.basis q)) RowState.Begun) whole-q.whole_is
           ∙ ap (λ (o : Option RowState). unwrap_or o RowState.Begun) closes-q.closing_is
 
   -- ---- the play
@@ -374,35 +374,35 @@ module _ (s : Scene) (first : List Seen) (plans : List BootPlan) (number : ℕ) 
     play entry stored =
         Event.Finish s.client entry state stored ∷ steps ++ Event.Claim s.client asks fetched (ClaimAnswer.Entry entry) ∷ Event.Ask s.client asks None (AskAnswer.Hold blocks release) ∷ p
 
-    entry-is : (entry : ℕ) (stored : Stored) → IsLegal c s.opening (play entry stored) → entry ≡ next_entry s.facts s.opening p
+    entry-is : (entry : ℕ) (stored : Stored) → IsLegal c (play entry stored) → entry ≡ next_entry s.basis p
     entry-is entry stored legal =
-        let claimed = legal-before c s.opening steps (Event.Claim s.client asks fetched (ClaimAnswer.Entry entry) ∷ Event.Ask s.client asks None (AskAnswer.Hold blocks release) ∷ p) legal.0 in
+        let claimed = legal-before c steps (Event.Claim s.client asks fetched (ClaimAnswer.Entry entry) ∷ Event.Ask s.client asks None (AskAnswer.Hold blocks release) ∷ p) legal.0 in
         let answered = claimed.2.1.answer_is in
         let so =
-        accepted-claim fetched (target s.facts (views s.facts s.opening p) asks) (next_entry s.facts s.opening p)
-        (verdict s.facts s.opening (Event.Ask s.client asks None (AskAnswer.Hold blocks release) ∷ p) s.client asks (Stage.Claim claimed.2.0.release)) entry answered in
+        accepted-claim fetched (target s.basis.facts (views s.basis p) asks) (next_entry s.basis p)
+        (verdict s.basis (Event.Ask s.client asks None (AskAnswer.Hold blocks release) ∷ p) s.client asks (Stage.Claim claimed.2.0.release)) entry answered in
         so.4
 
-    stored-is : (entry : ℕ) (stored : Stored) → IsLegal c s.opening (play entry stored) → off (play entry stored) ≡ false → stored ≡ Stored.Yes
+    stored-is : (entry : ℕ) (stored : Stored) → IsLegal c (play entry stored) → off (play entry stored) ≡ false → stored ≡ Stored.Yes
     stored-is entry stored legal on =
         let finish = legal.2.2 in
         let calm = or_parts (is_fault stored) _ on in
         stored-yes legal.2.1 stored finish.unchanged (ap is_ended (sym finish.state_is) ∙ ended-well) calm.0
 
-    module _ (are : AreSteps s.client (next_entry s.facts s.opening p) steps) (legal : IsLegal c s.opening (play (next_entry s.facts s.opening p) Stored.Yes))
-        (alike : shows_alike (view_of s step.device (play (next_entry s.facts s.opening p) Stored.Yes)) (view_of s step.device (installed_with s number step chosen q)) ≡ true) where
+    module _ (are : AreSteps s.client (next_entry s.basis p) steps) (legal : IsLegal c (play (next_entry s.basis p) Stored.Yes))
+        (alike : shows_alike (view_of s step.device (play (next_entry s.basis p) Stored.Yes)) (view_of s step.device (installed_with s number step chosen q)) ≡ true) where
       abbrev now : List Event
-      now = play (next_entry s.facts s.opening p) Stored.Yes
+      now = play (next_entry s.basis p) Stored.Yes
 
-      entry-same : next_entry s.facts s.opening p ≡ next_entry s.facts s.opening q
+      entry-same : next_entry s.basis p ≡ next_entry s.basis q
       entry-same = ap (λ (rs : List Row). length rs + 1) same.rows_are
 
-      fresh-p : row_of (rows s.facts s.opening p) (next_entry s.facts s.opening p) ≡ None
-      fresh-p = ap (λ (rs : List Row). row_of rs (next_entry s.facts s.opening p)) same.rows_are ∙ ap (row_of (rows s.facts s.opening q)) entry-same ∙ fresh-q
+      fresh-p : row_of (rows s.basis p) (next_entry s.basis p) ≡ None
+      fresh-p = ap (λ (rs : List Row). row_of rs (next_entry s.basis p)) same.rows_are ∙ ap (row_of (rows s.basis q)) entry-same ∙ fresh-q
 
-      target-p : Beside (target s.facts (views s.facts s.opening p) asks) f.t
+      target-p : Beside (target s.basis.facts (views s.basis p) asks) f.t
       target-p =
-          beside (target s.facts (views s.facts s.opening p) asks) (target s.facts (views s.facts s.opening q) asks) (target-like s.facts (views s.facts s.opening p) (views s.facts s.opening q) (views-like s p q same) asks) f.t f.target_is
+          beside (target s.basis.facts (views s.basis p) asks) (target s.basis.facts (views s.basis q) asks) (target-like s.basis.facts (views s.basis p) (views s.basis q) (views-like s p q same) asks) f.t f.target_is
 
       abbrev t-p : Target
       t-p = record { place = f.t.place; view = target-p.view; chosen = f.t.chosen }
@@ -411,28 +411,28 @@ module _ (s : Scene) (first : List Seen) (plans : List BootPlan) (number : ℕ) 
       device-p = let l = target-p.like in ap (λ (sheet : Sheet). sheet.device) l.sheet ∙ device-q
 
       abbrev row-p : Row
-      row-p = new_row (next_entry s.facts s.opening p) (time_of p) s.client asks RowState.Begun t-p
+      row-p = new_row (next_entry s.basis p) (time_of p) s.client asks RowState.Begun t-p
 
       abbrev last-p : List Event
-      last-p = steps ++ Event.Claim s.client asks fetched (ClaimAnswer.Entry (next_entry s.facts s.opening p)) ∷ Event.Ask s.client asks None (AskAnswer.Hold blocks release) ∷ p
+      last-p = steps ++ Event.Claim s.client asks fetched (ClaimAnswer.Entry (next_entry s.basis p)) ∷ Event.Ask s.client asks None (AskAnswer.Hold blocks release) ∷ p
 
-      made-p : Made s p now b row-p (next_entry s.facts s.opening p) state
+      made-p : Made s p now b row-p (next_entry s.basis p) state
       made-p = made s number step chosen p same.hold_one same.live_one fresh-p t-p target-p.target_is b on-device device-p blocks release fetched steps are state
 
       closes-p : Closes s number step chosen p same.hold_one same.live_one fresh-p t-p target-p.target_is b on-device device-p blocks release fetched steps are
       closes-p = closes s number step chosen p same.hold_one same.live_one fresh-p t-p target-p.target_is b on-device device-p blocks release fetched steps are
 
       -- what its board shows is what is planned
-      board-like : LikeSeen b.sheet (seen s.facts s.opening last-p b.number) (seen s.facts s.opening last-q b.number)
+      board-like : LikeSeen b.sheet (seen s.basis last-p b.number) (seen s.basis last-q b.number)
       board-like =
-          shown-like b.sheet (seen s.facts s.opening last-p b.number) (seen s.facts s.opening last-q b.number) (ap is_home ends-q.shows)
+          shown-like b.sheet (seen s.basis last-p b.number) (seen s.basis last-q b.number) (ap is_home ends-q.shows)
           (sym
           (ap (λ (o : Option DeviceView). shows_alike o (view_of s step.device (installed_with s number step chosen q))) (view-now s step.device b now on-device)
-          ∙ ap (shows_alike (Some (view_in (live now) (known s.facts s.opening now) b)))
+          ∙ ap (shows_alike (Some (view_in (live now) (known s.basis now) b)))
           (ap (view_of s step.device) ended-q-is ∙ view-now s step.device b ended-q on-device))
           ∙ alike)
 
-      text-p : version_shown b.sheet (seen s.facts s.opening last-p b.number) ≡ Some text
+      text-p : version_shown b.sheet (seen s.basis last-p b.number) ≡ Some text
       text-p = let l = board-like in l.version ∙ text-q
 
       -- so it ends in the planned state
@@ -443,42 +443,42 @@ module _ (s : Scene) (first : List Seen) (plans : List BootPlan) (number : ℕ) 
           waits : Bool
           waits = has_flag DeviceFlag.NeedsReboot (flags_of f.t.view)
 
-          closed : state ≡ closing_of closes-p.t_last row-p (view_in (live last-p) (known s.facts s.opening last-p) b)
+          closed : state ≡ closing_of closes-p.t_last row-p (view_in (live last-p) (known s.basis last-p) b)
           closed = let finish = legal.2.2 in finish.state_is ∙ same_Some _ _ (sym finish.closing ∙ closes-p.closing_is)
 
           ended-p : state ≡ settled waits (ended_well Op.Write closes-p.t_last.steps) (same_version text f.t.chosen.release.version)
           ended-p =
               closed
-              ∙ closes-settled closes-p.t_last row-p (view_in (live last-p) (known s.facts s.opening last-p) b) text text-p (sym (ap is_ended closed) ∙ ended-well)
+              ∙ closes-settled closes-p.t_last row-p (view_in (live last-p) (known s.basis last-p) b) text text-p (sym (ap is_ended closed) ∙ ended-well)
               ∙ ap (λ (flags : List Bool). settled (has_flag DeviceFlag.NeedsReboot flags) (ended_well Op.Write closes-p.t_last.steps) (same_version text f.t.chosen.release.version)) (let l = target-p.like in closes-p.flags_are ∙ l.flags)
 
-      rows-same : rows s.facts s.opening now ≡ rows s.facts s.opening ended-q
+      rows-same : rows s.basis now ≡ rows s.basis ended-q
       rows-same =
           made-p.rows_are
-          ∙ ap (λ (rs : List Row). rows_with rs (time_of p) row-p (next_entry s.facts s.opening p) state) same.rows_are
-          ∙ ap (λ (time : ℕ). rows_with (rows s.facts s.opening q) time row-p (next_entry s.facts s.opening p) state) same.time_is
-          ∙ ap (λ (row : Row). rows_with (rows s.facts s.opening q) (time_of q) row (next_entry s.facts s.opening p) state) row-same
-          ∙ ap (λ (entry : ℕ). rows_with (rows s.facts s.opening q) (time_of q) row-q entry state) entry-same
-          ∙ ap (rows_with (rows s.facts s.opening q) (time_of q) row-q (next_entry s.facts s.opening q)) state-same
+          ∙ ap (λ (rs : List Row). rows_with rs (time_of p) row-p (next_entry s.basis p) state) same.rows_are
+          ∙ ap (λ (time : ℕ). rows_with (rows s.basis q) time row-p (next_entry s.basis p) state) same.time_is
+          ∙ ap (λ (row : Row). rows_with (rows s.basis q) (time_of q) row (next_entry s.basis p) state) row-same
+          ∙ ap (λ (entry : ℕ). rows_with (rows s.basis q) (time_of q) row-q entry state) entry-same
+          ∙ ap (rows_with (rows s.basis q) (time_of q) row-q (next_entry s.basis q)) state-same
           ∙ sym made-q.rows_are
         where
           row-same : row-p ≡ row-q
           row-same =
               ap (λ (entry : ℕ). new_row entry (time_of p) s.client asks RowState.Begun t-p) entry-same
-              ∙ ap (λ (time : ℕ). new_row (next_entry s.facts s.opening q) time s.client asks RowState.Begun t-p) same.time_is
-              ∙ row-like (next_entry s.facts s.opening q) (time_of q) s.client asks RowState.Begun target-p.view f.t target-p.like
+              ∙ ap (λ (time : ℕ). new_row (next_entry s.basis q) time s.client asks RowState.Begun t-p) same.time_is
+              ∙ row-like (next_entry s.basis q) (time_of q) s.client asks RowState.Begun target-p.view f.t target-p.like
 
-      all-shown : (n : ℕ) (sheet : Sheet) → slice_get s.facts.sheets n ≡ Some sheet → LikeSeen sheet (seen s.facts s.opening now n) (seen s.facts s.opening ended-q n)
+      all-shown : (n : ℕ) (sheet : Sheet) → slice_get s.basis.facts.sheets n ≡ Some sheet → LikeSeen sheet (seen s.basis now n) (seen s.basis ended-q n)
       all-shown n sheet there =
           by_test (b.number == n) _
           (λ t.
           let at : b.number ≡ n = eqb-true b.number n t in
-          let one : b.sheet ≡ sheet = same_Some _ _ (sym has-b ∙ ap (slice_get s.facts.sheets) at ∙ there) in
-          subst (λ (m : ℕ). LikeSeen sheet (seen s.facts s.opening now m) (seen s.facts s.opening ended-q m)) at
-          (subst (λ (x : Sheet). LikeSeen x (seen s.facts s.opening now b.number) (seen s.facts s.opening ended-q b.number)) one board-like))
+          let one : b.sheet ≡ sheet = same_Some _ _ (sym has-b ∙ ap (slice_get s.basis.facts.sheets) at ∙ there) in
+          subst (λ (m : ℕ). LikeSeen sheet (seen s.basis now m) (seen s.basis ended-q m)) at
+          (subst (λ (x : Sheet). LikeSeen x (seen s.basis now b.number) (seen s.basis ended-q b.number)) one board-like))
           (λ t.
-          subst (λ (x : Seen). LikeSeen sheet (seen s.facts s.opening now n) x) (sym (made-q.others n t))
-          (subst (λ (x : Seen). LikeSeen sheet x (seen s.facts s.opening q n)) (sym (made-p.others n t)) (same.shown n sheet there)))
+          subst (λ (x : Seen). LikeSeen sheet (seen s.basis now n) x) (sym (made-q.others n t))
+          (subst (λ (x : Seen). LikeSeen sheet x (seen s.basis q n)) (sym (made-p.others n t)) (same.shown n sheet there)))
 
       beside-planned : Same s now ended-q
       beside-planned = record {
@@ -496,15 +496,15 @@ module _ (s : Scene) (first : List Seen) (plans : List BootPlan) (number : ℕ) 
 
 -- So a play of a good step leads on beside the planned one.
 pub played-same : (s : Scene) (first : List Seen) (plans : List BootPlan) (number : ℕ) (step : PlanStep) (chosen : Chosen) (p q next : List Event) → Same s p q → IsQuiet s q → release_at s step.release ≡ Some chosen
-    → is_good_with s number step q chosen ≡ true → IsLegal (record { facts = s.facts; first = first; plans = plans }) s.opening next → off next ≡ false → IsPlayed s number step chosen p next
+    → is_good_with s number step q chosen ≡ true → IsLegal (campaign_on s.basis first plans) next → off next ≡ false → IsPlayed s number step chosen p next
     → shows_alike (view_of s step.device next) (view_of s step.device (installed_with s number step chosen q)) ≡ true → Same s next (installed_with s number step chosen q)
 played-same s first plans number step chosen p q next same quiet there good legal on played alike =
     subst (λ (past : List Event). Same s past inst) (sym now-is)
     (goes-beside s first plans number step chosen p q same quiet there good played.blocks played.release played.fetched played.state played.steps played.ended are-so
-    (subst (IsLegal c s.opening) now-is legal) (subst (λ (past : List Event). shows_alike (view_of s step.device past) (view_of s step.device inst) ≡ true) now-is alike))
+    (subst (IsLegal c) now-is legal) (subst (λ (past : List Event). shows_alike (view_of s step.device past) (view_of s step.device inst) ≡ true) now-is alike))
   where
     c : Campaign
-    c = record { facts = s.facts; first = first; plans = plans }
+    c = campaign_on s.basis first plans
 
     inst : List Event
     inst = installed_with s number step chosen q
@@ -512,10 +512,10 @@ played-same s first plans number step chosen p q next same quiet there good lega
     told : ℕ → Stored → List Event
     told entry stored = play s first plans number step chosen p q same quiet there good played.blocks played.release played.fetched played.state played.steps played.ended entry stored
 
-    legal-told : IsLegal c s.opening (told played.entry played.stored)
-    legal-told = subst (IsLegal c s.opening) played.goes_on legal
+    legal-told : IsLegal c (told played.entry played.stored)
+    legal-told = subst (IsLegal c) played.goes_on legal
 
-    entry : played.entry ≡ next_entry s.facts s.opening p
+    entry : played.entry ≡ next_entry s.basis p
     entry = entry-is s first plans number step chosen p q same quiet there good played.blocks played.release played.fetched played.state played.steps played.ended played.entry played.stored legal-told
 
     stored : played.stored ≡ Stored.Yes
@@ -523,25 +523,25 @@ played-same s first plans number step chosen p q next same quiet there good lega
         stored-is s first plans number step chosen p q same quiet there good played.blocks played.release played.fetched played.state played.steps played.ended played.entry played.stored legal-told
         (subst (λ (past : List Event). off past ≡ false) played.goes_on on)
 
-    now-is : next ≡ told (next_entry s.facts s.opening p) Stored.Yes
-    now-is = played.goes_on ∙ ap (λ (n : ℕ). told n played.stored) entry ∙ ap (told (next_entry s.facts s.opening p)) stored
+    now-is : next ≡ told (next_entry s.basis p) Stored.Yes
+    now-is = played.goes_on ∙ ap (λ (n : ℕ). told n played.stored) entry ∙ ap (told (next_entry s.basis p)) stored
 
-    are-so : AreSteps s.client (next_entry s.facts s.opening p) played.steps
+    are-so : AreSteps s.client (next_entry s.basis p) played.steps
     are-so = subst (λ (n : ℕ). AreSteps s.client n played.steps) entry (each-step s.client played.entry played.steps played.are_steps)
 
 -- ---- all plays
 
 -- What was before a play is legal too, and wasn't off.
-record Before (c : Campaign) (opening : List Row) (past : List Event) : Type 0 where
-  legal : IsLegal c opening past
+record Before (c : Campaign) (past : List Event) : Type 0 where
+  legal : IsLegal c past
   on : off past ≡ false
 
-before-play : (s : Scene) (c : Campaign) (number : ℕ) (step : PlanStep) (chosen : Chosen) (past next : List Event) → IsPlayed s number step chosen past next → Before c s.opening next → Before c s.opening past
+before-play : (s : Scene) (c : Campaign) (number : ℕ) (step : PlanStep) (chosen : Chosen) (past next : List Event) → IsPlayed s number step chosen past next → Before c next → Before c past
 before-play s c number step chosen past next played b =
     let steps = each-step s.client played.entry played.steps played.are_steps in
     let l = left s played.entry played.steps begun steps in
-    let legal = subst (IsLegal c s.opening) played.goes_on b.legal in
-    let claimed = legal-before c s.opening played.steps begun legal.0 in
+    let legal = subst (IsLegal c) played.goes_on b.legal in
+    let claimed = legal-before c played.steps begun legal.0 in
     let finish : (is_fault played.stored || off (played.steps ++ begun)) ≡ false = subst (λ (events : List Event). off events ≡ false) played.goes_on b.on in
     let calm = or_parts (is_fault played.stored) (off (played.steps ++ begun)) finish in
     record { legal = claimed.0.0; on = sym l.off_is ∙ calm.1 }
@@ -551,7 +551,7 @@ before-play s c number step chosen past next played b =
         Event.Claim s.client (request_of s number step chosen) played.fetched (ClaimAnswer.Entry played.entry)
         ∷ Event.Ask s.client (request_of s number step chosen) None (AskAnswer.Hold played.blocks played.release) ∷ past
 
-before-plays : (s : Scene) (c : Campaign) (number : ℕ) (steps : List PlanStep) (planned past now : List Event) → IsFollowed s number steps planned past now → Before c s.opening now → Before c s.opening past
+before-plays : (s : Scene) (c : Campaign) (number : ℕ) (steps : List PlanStep) (planned past now : List Event) → IsFollowed s number steps planned past now → Before c now → Before c past
 before-plays s c _ _ _ _ _ (IsFollowed.Stays number planned past) b = b
 before-plays s c _ _ _ _ _ (IsFollowed.GoesOn number step steps chosen planned past next now there played alike more) b =
     before-play s c number step chosen past next played (before-plays s c (number + 1) steps (installed s number step planned) next now more b)
@@ -573,7 +573,7 @@ first-good s number step rest planned h = of (is_good s number step planned) ref
     of false e h = cc
 
 follow : (s : Scene) (first : List Seen) (plans : List BootPlan) (number : ℕ) (steps rest : List PlanStep) (planned past now : List Event) → IsFollowed s number steps planned past now
-    → Before (record { facts = s.facts; first = first; plans = plans }) s.opening now → Behind s number (steps ++ rest) planned past → Behind s (number + length steps) rest (after s number steps planned) now
+    → Before (campaign_on s.basis first plans) now → Behind s number (steps ++ rest) planned past → Behind s (number + length steps) rest (after s number steps planned) now
 unfolding after
 follow s first plans _ _ rest _ _ _ (IsFollowed.Stays number planned past) b h =
     record { same = h.same; quiet = h.quiet; good = subst (λ (n : ℕ). first_bad s n rest planned ≡ None) (omega arith) h.good }
@@ -582,7 +582,7 @@ follow s first plans _ _ rest _ _ _ (IsFollowed.GoesOn number step steps chosen 
     (follow s first plans (number + 1) steps rest (installed s number step planned) next now more b on)
   where
     c : Campaign
-    c = record { facts = s.facts; first = first; plans = plans }
+    c = campaign_on s.basis first plans
 
     parts : (is_good s number step planned ≡ true) × (first_bad s (number + 1) (steps ++ rest) (installed s number step planned) ≡ None)
     parts = first-good s number step (steps ++ rest) planned h.good
@@ -599,7 +599,7 @@ follow s first plans _ _ rest _ _ _ (IsFollowed.GoesOn number step steps chosen 
     inst-is : installed s number step planned ≡ installed_with s number step chosen planned
     inst-is = g.installed_is ∙ ap (λ (x : Chosen). installed_with s number step x planned) one
 
-    at-next : Before c s.opening next
+    at-next : Before c next
     at-next = before-plays s c (number + 1) steps (installed s number step planned) next now more b
 
     on : Behind s (number + 1) (steps ++ rest) (installed s number step planned) next
@@ -614,20 +614,17 @@ follow s first plans _ _ rest _ _ _ (IsFollowed.GoesOn number step steps chosen 
 
 -- The next step of a good plan is accepted after every legal log that goes on so.
 pub next_accepted : (s : Scene) (done : List PlanStep) (step : PlanStep) (more : List PlanStep) (past now : List Event) → IsAcceptedNext s done step more past now
-next_accepted s steps step more past now c chosen facts legal quiet good followed on below there =
-    let behind = follow s c.first c.plans 1 steps (step ∷ more) past past now followed (record { legal = legal-here; on = on }) at-first in
+next_accepted s steps step more past now first plans chosen legal quiet good followed on below there =
+    let behind = follow s first plans 1 steps (step ∷ more) past past now followed (record { legal = legal; on = on }) at-first in
     let parts = first-good s (1 + length steps) step more (after s 1 steps past) behind.good in
     let g = good-step s (1 + length steps) step (after s 1 steps past) parts.0 in
     let one : g.chosen ≡ chosen = same_Some _ _ (sym g.there ∙ there) in
     let all = tests s (1 + length steps) step g.chosen (after s 1 steps past) g.good in
     ap (accepts step.release) (verdict-like s now (after s 1 steps past) behind.same s.client (request_of s (length steps + 1) step chosen) Stage.Ask)
-    ∙ ap (λ (n : ℕ). accepts step.release (verdict s.facts s.opening (after s 1 steps past) s.client (request_of s n step chosen) Stage.Ask)) (omega arith)
-    ∙ ap (λ (x : Chosen). accepts step.release (verdict s.facts s.opening (after s 1 steps past) s.client (request_of s (1 + length steps) step x) Stage.Ask)) (sym one)
+    ∙ ap (λ (n : ℕ). accepts step.release (verdict s.basis (after s 1 steps past) s.client (request_of s n step chosen) Stage.Ask)) (omega arith)
+    ∙ ap (λ (x : Chosen). accepts step.release (verdict s.basis (after s 1 steps past) s.client (request_of s (1 + length steps) step x) Stage.Ask)) (sym one)
     ∙ all.asked_so
   where
-    legal-here : IsLegal (record { facts = s.facts; first = c.first; plans = c.plans }) s.opening now
-    legal-here = subst (λ (x : Campaign). IsLegal x s.opening now) (ap (λ (x : Facts). record { facts = x; first = c.first; plans = c.plans }) facts) legal
-
     at-first : Behind s 1 (steps ++ step ∷ more) past past
     at-first = record {
       same = record {
@@ -637,7 +634,7 @@ next_accepted s steps step more past now c chosen facts legal quiet good followe
         live_other = quiet.none_live;
         hold_one = quiet.no_hold;
         hold_other = quiet.no_hold;
-        shown = λ n sheet there. same-shown sheet (seen s.facts s.opening past n);
+        shown = λ n sheet there. same-shown sheet (seen s.basis past n);
       };
       quiet = quiet;
       good = good;

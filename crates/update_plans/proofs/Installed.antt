@@ -1,6 +1,6 @@
 -- An install of a good step: each of its events is allowed, it ends as the course of its device does, and a plan may
 -- be made behind it.
-use Rattle.std.proofs.Common.{cond, ◌≡◌, ℕ, ◌+◌, ◌&&◌, ◌||◌, ◌==◌, Bool, true, false, List, [], ◌∷◌, ◌++◌, length, inl, refl, sym, ap, ◌∙◌, subst, arith}
+use Rattle.std.proofs.Common.{cond, ◌≡◌, ℕ, ◌&&◌, ◌||◌, ◌==◌, Bool, true, false, List, [], ◌∷◌, ◌++◌, length, inl, refl, sym, ap, ◌∙◌, arith}
 use Rattle.std.specs.Prelude.{Option, Some, None, find, nat_lt, option_map, option_and_then, unwrap_or, if◌then◌else◌}
 use Rattle.std.specs.Option.{option_map_or}
 use Rattle.std.specs.List.{AllByRecursion}
@@ -23,7 +23,6 @@ use Rattle.update_log.specs.declared.decision.Stage.{Stage}
 use Rattle.update_log.specs.declared.event.Event.{Event}
 use Rattle.update_log.specs.declared.event.Op.{Op}
 use Rattle.update_log.specs.declared.event.Stored.{Stored}
-use Rattle.update_log.specs.declared.facts.Facts.{Facts}
 use Rattle.update_log.specs.declared.live.Held.{Held}
 use Rattle.update_log.specs.declared.live.LiveEntry.{LiveEntry}
 use Rattle.update_log.specs.declared.live.OpenStep.{OpenStep}
@@ -32,10 +31,10 @@ use Rattle.update_log.specs.declared.request.Request.{Request}
 use Rattle.update_log.specs.declared.trace.Trace.{Trace}
 use Rattle.update_log.specs.Boards.{Board}
 use Rattle.update_log.specs.Holding.{blocks_of, hold, holds, live, live_entry, open_steps, step_open, without_entry}
-use Rattle.update_log.specs.Known.{Fate, Target, known, new_row, row_of, rows, rows_by, seen, target, view_of as view_in, views}
+use Rattle.update_log.specs.Known.{Fate, Target, known, new_row, row_of, rows, rows_by, target, view_of as view_in, views}
 use Rattle.update_log.specs.Legal.{ClaimAnswered, IsLegalUnlimited, UnchangedExactly, is_fetched, next_entry}
 use Rattle.update_log.specs.Pasts.{time_of}
-use Rattle.update_log.specs.Shows.{Campaign}
+use Rattle.update_log.specs.Shows.{campaign_on, Campaign}
 use Rattle.update_log.specs.Steps.{all_ops, closing, closing_at, closing_of, may_be_next, judge_shown, mode_of, next_step, trace, view_of_row, waits_for_boot}
 use Rattle.update_log.specs.Verdicts.{need, verdict}
 use Rattle.update_log.proofs.LegalOnce.{PastKept, past-kept-on}
@@ -70,17 +69,17 @@ none-found p (x ∷ xs) a = ap (λ (b : Bool). cond b (Some x) (find p xs)) a.0 
 
 module _ (s : Scene) (number : ℕ) (step : PlanStep) (chosen : Chosen) (past : List Event) (q : IsQuiet s past) (f : Found s number step chosen past) where
   abbrev pub entry : ℕ
-  entry = next_entry s.facts s.opening past
+  entry = next_entry s.basis past
 
-  -- the campaign with the scene's facts
+  -- the campaign over the scene's basis
   abbrev here : Campaign
-  here = record { facts = s.facts; first = q.campaign.first; plans = q.campaign.plans }
+  here = campaign_on s.basis q.first q.plans
 
-  legal-here : IsLegalUnlimited here s.opening past
-  legal-here = subst (λ (c : Campaign). IsLegalUnlimited c s.opening past) (ap (λ (facts : Facts). record { facts = facts; first = q.campaign.first; plans = q.campaign.plans }) q.facts_are) q.legal
+  legal-here : IsLegalUnlimited here past
+  legal-here = q.legal
 
-  pub kept : PastKept s.facts s.opening past
-  kept = past-kept-on here s.opening past q.history legal-here
+  pub kept : PastKept s.basis past
+  kept = past-kept-on here past q.history legal-here
 
   abbrev pub asks : Request
   asks = request_of s number step chosen
@@ -93,7 +92,7 @@ module _ (s : Scene) (number : ℕ) (step : PlanStep) (chosen : Chosen) (past : 
 
   -- ---- the ask
 
-  ask-legal : IsLegalUnlimited here s.opening (asked s number step chosen past)
+  ask-legal : IsLegalUnlimited here (asked s number step chosen past)
   ask-legal = (
     legal-here,
     record { booted = λ h. q.booted; on = λ h. q.on },
@@ -115,17 +114,17 @@ module _ (s : Scene) (number : ℕ) (step : PlanStep) (chosen : Chosen) (past : 
   abbrev fetched : FetchNote
   fetched = FetchNote.Whole chosen.release.digest chosen.release.size step.raw
 
-  fetched-is : is_fetched fetched (target s.facts (views s.facts s.opening past) asks) ≡ true
+  fetched-is : is_fetched fetched (target s.basis.facts (views s.basis past) asks) ≡ true
   fetched-is = rw (f.target_is, f.chosen_is, bytes-self chosen.release.digest, eqb-self chosen.release.size) refl
 
   claim-answered : (d : Decision) → accepts step.release d ≡ true
-      → ClaimAnswered fetched (target s.facts (views s.facts s.opening past) asks) entry d (ClaimAnswer.Entry entry)
+      → ClaimAnswered fetched (target s.basis.facts (views s.basis past) asks) entry d (ClaimAnswer.Entry entry)
   claim-answered (Decision.Accept device release blocks) h = rw fetched-is (inl refl)
   claim-answered (Decision.Kept e state) h = cc
   claim-answered (Decision.Refused refusal) h = cc
 
-  claim-legal : accepts step.release (verdict s.facts s.opening (asked s number step chosen past) s.client asks (Stage.Claim step.release)) ≡ true
-      → IsLegalUnlimited here s.opening (taken s number step chosen (asked s number step chosen past))
+  claim-legal : accepts step.release (verdict s.basis (asked s number step chosen past) s.client asks (Stage.Claim step.release)) ≡ true
+      → IsLegalUnlimited here (taken s number step chosen (asked s number step chosen past))
   claim-legal h = (
     ask-legal,
     record { booted = λ h. q.booted; on = λ h. q.on },
@@ -135,7 +134,7 @@ module _ (s : Scene) (number : ℕ) (step : PlanStep) (chosen : Chosen) (past : 
         held_is = held-is;
         request_is = refl;
         pending = refl;
-        answer_is = claim-answered (verdict s.facts s.opening (asked s number step chosen past) s.client asks (Stage.Claim step.release)) h;
+        answer_is = claim-answered (verdict s.basis (asked s number step chosen past) s.client asks (Stage.Claim step.release)) h;
       },
     ),
   )
@@ -148,15 +147,15 @@ module _ (s : Scene) (number : ℕ) (step : PlanStep) (chosen : Chosen) (past : 
   abbrev pub row : Row
   row = new_row entry (time_of past) s.client asks RowState.Begun f.t
 
-  pub rows-begun : rows s.facts s.opening begun ≡ rows s.facts s.opening past ++ row ∷ []
+  pub rows-begun : rows s.basis begun ≡ rows s.basis past ++ row ∷ []
   rows-begun =
-      ap (λ (o : Option Target). rows_by Fate.Made (option_map (λ t. Change.Add (new_row entry (time_of past) s.client asks RowState.Begun t)) o) (rows s.facts s.opening past)) f.target_is
+      ap (λ (o : Option Target). rows_by Fate.Made (option_map (λ t. Change.Add (new_row entry (time_of past) s.client asks RowState.Begun t)) o) (rows s.basis past)) f.target_is
 
-  row-begun : row_of (rows s.facts s.opening begun) entry ≡ Some row
+  row-begun : row_of (rows s.basis begun) entry ≡ Some row
   row-begun =
       ap (λ (all : List Row). row_of all entry) rows-begun
-      ∙ find-push_new (λ r. r.entry == entry) (rows s.facts s.opening past) row
-      (row_of-past 1 (rows s.facts s.opening past) entry kept.rows_kept.valid.entries (omega arith)) (eqb-self entry)
+      ∙ find-push_new (λ r. r.entry == entry) (rows s.basis past) row
+      (row_of-past 1 (rows s.basis past) entry kept.rows_kept.valid.entries (omega arith)) (eqb-self entry)
 
   live-begun : live begun ≡ record { client = s.client; entry = entry; blocks = blocks_of chosen.release.size } ∷ []
   live-begun = rw q.none_live refl
@@ -164,7 +163,7 @@ module _ (s : Scene) (number : ℕ) (step : PlanStep) (chosen : Chosen) (past : 
   holds-begun : holds begun ≡ []
   holds-begun = rw (q.no_hold, eqb-self s.client) refl
 
-  trace-begun : trace s.facts s.opening entry begun ≡ Some (trace_begun f.t.view f.t.chosen.component)
+  trace-begun : trace s.basis entry begun ≡ Some (trace_begun f.t.view f.t.chosen.component)
   trace-begun = rw (eqb-self entry, f.target_is) refl
 
   -- no step of a new entry is open
@@ -192,14 +191,14 @@ module _ (s : Scene) (number : ℕ) (step : PlanStep) (chosen : Chosen) (past : 
   first = record { trace = trace_begun f.t.view f.t.chosen.component; seen = f.t.view.seen }
 
   -- the view that was found is the board's
-  pub view-is : f.t.view ≡ view_in (live past) (known s.facts s.opening past) b
+  pub view-is : f.t.view ≡ view_in (live past) (known s.basis past) b
   view-is = same_Some _ _ (sym f.view_is ∙ view-now s step.device b past board.1)
 
   pub flags-are : has_flag DeviceFlag.NeedsReboot f.t.view.sheet.flags ≡ has_flag DeviceFlag.NeedsReboot b.sheet.flags
   flags-are = ap (λ (v : DeviceView). has_flag DeviceFlag.NeedsReboot v.sheet.flags) view-is
 
   pub device-is : f.t.view.sheet.device ≡ step.device
-  device-is = bytes-same f.t.view.sheet.device step.device (find-passes (has_id step.device) (views s.facts s.opening past) f.t.view f.view_is)
+  device-is = bytes-same f.t.view.sheet.device step.device (find-passes (has_id step.device) (views s.basis past) f.t.view f.view_is)
 
   pub home-first : (raw : ℕ) × (mode : Mode) × (f.t.view.seen ≡ Seen.Home raw mode)
   home-first = of f.t.view.seen refl f.home
@@ -210,9 +209,9 @@ module _ (s : Scene) (number : ℕ) (step : PlanStep) (chosen : Chosen) (past : 
       of Seen.Stranger e h = let bad : false ≡ true = sym (ap is_home e) ∙ h in cc
 
   abbrev pub G : List Event → Course → Type 0
-  G = Goes s step chosen q.campaign.first q.campaign.plans entry b board.1 f.t.view flags-are
+  G = Goes s step chosen q.first q.plans entry b board.1 f.t.view flags-are
 
-  goes-first : accepts step.release (verdict s.facts s.opening (asked s number step chosen past) s.client asks (Stage.Claim step.release)) ≡ true → G begun first
+  goes-first : accepts step.release (verdict s.basis (asked s number step chosen past) s.client asks (Stage.Claim step.release)) ≡ true → G begun first
   goes-first h = record {
     legal = claim-legal h;
     booted = q.booted;
@@ -255,9 +254,9 @@ module _ (s : Scene) (number : ℕ) (step : PlanStep) (chosen : Chosen) (past : 
   abbrev pub cleaned : Course
   cleaned = course_step step.raw looked Op.Cleanup
 
-  pub goes-whole : accepts step.release (verdict s.facts s.opening (asked s number step chosen past) s.client asks (Stage.Claim step.release)) ≡ true → G (done s number step chosen past) cleaned
+  pub goes-whole : accepts step.release (verdict s.basis (asked s number step chosen past) s.client asks (Stage.Claim step.release)) ≡ true → G (done s number step chosen past) cleaned
   goes-whole h =
-      let on = goes-on s step chosen q.campaign.first q.campaign.plans entry b board.1 f.t.view flags-are in
+      let on = goes-on s step chosen q.first q.plans entry b board.1 f.t.view flags-are in
       let g0 : G begun first = goes-first h in
       let g1 = on begun first Op.Prepare g0 (λ n. tt) (returns-prepare step.raw first g0.raw g0.mode g0.home g0.returns) in
       let g2 = on _ prepared Op.Detach g1 (λ n. tt) (returns-detach step.raw prepared g1.returns) in
@@ -276,17 +275,17 @@ module _ (s : Scene) (number : ℕ) (step : PlanStep) (chosen : Chosen) (past : 
 
   -- its board's view, as the log stands before the finish
   abbrev view_done : DeviceView
-  view_done = view_in (live (done s number step chosen past)) (known s.facts s.opening (done s number step chosen past)) b
+  view_done = view_in (live (done s number step chosen past)) (known s.basis (done s number step chosen past)) b
 
-  closing-is : (g : G (done s number step chosen past) cleaned) → closing s.facts s.opening (done s number step chosen past) entry ≡ Some (closing_of cleaned.trace g.row view_done)
+  closing-is : (g : G (done s number step chosen past) cleaned) → closing s.basis (done s number step chosen past) entry ≡ Some (closing_of cleaned.trace g.row view_done)
   closing-is g =
-      ap (option_and_then (λ t. option_and_then (closing_at (views s.facts s.opening (done s number step chosen past)) t) (row_of (rows s.facts s.opening (done s number step chosen past)) entry))) g.trace_is
-      ∙ ap (option_and_then (closing_at (views s.facts s.opening (done s number step chosen past)) cleaned.trace)) g.row_is
+      ap (option_and_then (λ t. option_and_then (closing_at (views s.basis (done s number step chosen past)) t) (row_of (rows s.basis (done s number step chosen past)) entry))) g.trace_is
+      ∙ ap (option_and_then (closing_at (views s.basis (done s number step chosen past)) cleaned.trace)) g.row_is
       ∙ ap (option_map (closing_of cleaned.trace g.row)) (view-of-row g)
     where
-      view-of-row : (g : G (done s number step chosen past) cleaned) → view_of_row (views s.facts s.opening (done s number step chosen past)) g.row ≡ Some view_done
+      view-of-row : (g : G (done s number step chosen past) cleaned) → view_of_row (views s.basis (done s number step chosen past)) g.row ≡ Some view_done
       view-of-row g =
-          ap (λ (device : List ℕ). find (λ v. bytes_eq v.sheet.device device) (views s.facts s.opening (done s number step chosen past))) g.device_is
+          ap (λ (device : List ℕ). find (λ v. bytes_eq v.sheet.device device) (views s.basis (done s number step chosen past))) g.device_is
           ∙ view-now s step.device b (done s number step chosen past) board.1
 
   end-is : (g : G (done s number step chosen past) cleaned) → end_of s number step chosen past ≡ closing_of cleaned.trace g.row view_done
@@ -329,7 +328,7 @@ module _ (s : Scene) (number : ℕ) (step : PlanStep) (chosen : Chosen) (past : 
   ended-changes RowState.NeedsReboot h = λ e. cc
   ended-changes _ h = cc
 
-  finish-legal : G (done s number step chosen past) cleaned → is_ended (end_of s number step chosen past) ≡ true → IsLegalUnlimited here s.opening (installed_with s number step chosen past)
+  finish-legal : G (done s number step chosen past) cleaned → is_ended (end_of s number step chosen past) ≡ true → IsLegalUnlimited here (installed_with s number step chosen past)
   finish-legal g h = (
     g.legal,
     record { booted = λ e. g.booted; on = λ e. g.on },
@@ -351,8 +350,8 @@ module _ (s : Scene) (number : ℕ) (step : PlanStep) (chosen : Chosen) (past : 
   -- behind it a plan may be made again
   quiet-again : G (done s number step chosen past) cleaned → is_ended (end_of s number step chosen past) ≡ true → IsQuiet s (installed_with s number step chosen past)
   quiet-again g h = record {
-    campaign = here;
-    facts_are = refl;
+    first = q.first;
+    plans = q.plans;
     legal = finish-legal g h;
     history = q.history;
     booted = g.booted;
@@ -383,18 +382,18 @@ tests-same true true p false e x third fourth = rw (sym (third refl)) refl
 pub good-is : (s : Scene) (number : ℕ) (step : PlanStep) (chosen : Chosen) (past : List Event) (v : DeviceView) → IsQuiet s past → release_at s step.release ≡ Some chosen → view_of s step.device past ≡ Some v
     → is_good_with s number step past chosen
     ≡ ((same_version (render v.sheet.format step.raw) chosen.release.version
-    && (accepts step.release (verdict s.facts s.opening past s.client (request_of s number step chosen) Stage.Ask) && nat_lt (length (rows s.facts s.opening past)) 65536))
+    && (accepts step.release (verdict s.basis past s.client (request_of s number step chosen) Stage.Ask) && nat_lt (length (rows s.basis past)) 65536))
     && ends_well v chosen.component chosen.release.version step.raw)
 good-is s number step chosen past v q there at_home =
     ap (λ (w : Bool). w && asks && claims && is_ended (end_of s number step chosen past)) written
-    ∙ tests-same (same_version (render v.sheet.format step.raw) chosen.release.version) asks (nat_lt (length (rows s.facts s.opening past)) 65536) claims (ends_well v chosen.component chosen.release.version step.raw)
+    ∙ tests-same (same_version (render v.sheet.format step.raw) chosen.release.version) asks (nat_lt (length (rows s.basis past)) 65536) claims (ends_well v chosen.component chosen.release.version step.raw)
     (is_ended (end_of s number step chosen past)) (λ a. accepted_twice s number step chosen past a) (λ w a c. ends a c)
   where
     asks : Bool
-    asks = accepts step.release (verdict s.facts s.opening past s.client (request_of s number step chosen) Stage.Ask)
+    asks = accepts step.release (verdict s.basis past s.client (request_of s number step chosen) Stage.Ask)
 
     claims : Bool
-    claims = accepts step.release (verdict s.facts s.opening (asked s number step chosen past) s.client (request_of s number step chosen) (Stage.Claim step.release))
+    claims = accepts step.release (verdict s.basis (asked s number step chosen past) s.client (request_of s number step chosen) (Stage.Claim step.release))
 
     written : writes s step chosen past ≡ same_version (render v.sheet.format step.raw) chosen.release.version
     written = ap (λ (o : Option DeviceView). option_map_or (λ view. same_version (render view.sheet.format step.raw) chosen.release.version) o false) at_home

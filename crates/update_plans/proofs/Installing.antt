@@ -23,7 +23,7 @@ use Rattle.update_log.specs.Holding.{holds, live, live_entry, open_steps, step_o
 use Rattle.update_log.specs.Known.{board_of, row_of, rows, seen}
 use Rattle.update_log.specs.Legal.{IsLegalUnlimited, ToldWhole}
 use Rattle.update_log.specs.Pasts.{boots, off}
-use Rattle.update_log.specs.Shows.{Campaign, EndShows, HasMode, HasRaw, IsPrefix, ModeAllowed, RawAllowed, digest_of, home_before, marks, raw_of as raw_taken, told, is_alike}
+use Rattle.update_log.specs.Shows.{campaign_on, Campaign, EndShows, HasMode, HasRaw, IsPrefix, ModeAllowed, RawAllowed, digest_of, home_before, marks, raw_of as raw_taken, told, is_alike}
 use Rattle.update_log.specs.Steps.{is_op, mode_of, next_op, next_step, op_number, trace, with_step}
 use Rattle.update_log.proofs.Lists.{eqb-self, find-filter_none, find-push_new}
 use Rattle.update_plans.specs.declared.course.Course.{Course}
@@ -106,15 +106,15 @@ after-home _ waits new raw mode = (raw, Mode.Runtime, refl)
 
 module _ (s : Scene) (step : PlanStep) (chosen : Chosen) (first : List Seen) (plans : List BootPlan) (entry : ℕ) (b : Board) (of : IsOf s step.device b) (view : DeviceView) (needs_same : has_flag DeviceFlag.NeedsReboot view.sheet.flags ≡ has_flag DeviceFlag.NeedsReboot b.sheet.flags) where
   abbrev pub c : Campaign
-  c = record { facts = s.facts; first = first; plans = plans }
+  c = campaign_on s.basis first plans
 
   -- the log behind the claim of the entry, by its course so far
   pub record Goes (past : List Event) (course : Course) : Type 0 where
-    pub legal : IsLegalUnlimited c s.opening past
+    pub legal : IsLegalUnlimited c past
     pub booted : 0 < boots past
     pub on : off past ≡ false
     pub row : Row
-    pub row_is : row_of (rows s.facts s.opening past) entry ≡ Some row
+    pub row_is : row_of (rows s.basis past) entry ≡ Some row
     pub device_is : row.device ≡ step.device
     pub version_is : row.version_new ≡ chosen.release.version
     pub digest_is : row.digest ≡ chosen.release.digest
@@ -122,9 +122,9 @@ module _ (s : Scene) (step : PlanStep) (chosen : Chosen) (first : List Seen) (pl
     pub live_is : live past ≡ record { client = s.client; entry = entry; blocks = blocks } ∷ []
     pub holds_are : holds past ≡ []
     pub closed : step_open past entry ≡ None
-    pub trace_is : trace s.facts s.opening entry past ≡ Some course.trace
+    pub trace_is : trace s.basis entry past ≡ Some course.trace
     pub flags_are : course.trace.flags ≡ flags_of view
-    pub seen_is : seen s.facts s.opening past b.number ≡ course.seen
+    pub seen_is : seen s.basis past b.number ≡ course.seen
     pub raw_is : raw_taken entry past ≡ Some step.raw
     pub raw : ℕ
     pub mode : Mode
@@ -135,8 +135,8 @@ module _ (s : Scene) (step : PlanStep) (chosen : Chosen) (first : List Seen) (pl
   live-found : (past : List Event) (course : Course) (g : Goes past course) → live_entry past entry ≡ Some (record { client = s.client; entry = entry; blocks = g.blocks })
   live-found past course g = rw (g.live_is, eqb-self entry) refl
 
-  board-found : (past : List Event) (course : Course) → Goes past course → board_of s.facts (rows s.facts s.opening past) entry ≡ Some b.number
-  board-found past course g = board-of-entry s step.device b (rows s.facts s.opening past) entry g.row of g.row_is g.device_is
+  board-found : (past : List Event) (course : Course) → Goes past course → board_of s.basis.facts (rows s.basis past) entry ≡ Some b.number
+  board-found past course g = board-of-entry s step.device b (rows s.basis past) entry g.row of g.row_is g.device_is
 
   waits-so : (past : List Event) (course : Course) → Goes past course → waits_for_boot s step.device past ≡ has_flag DeviceFlag.NeedsReboot course.trace.flags
   waits-so past course g =
@@ -146,14 +146,14 @@ module _ (s : Scene) (step : PlanStep) (chosen : Chosen) (first : List Seen) (pl
   seen-so : (past : List Event) (course : Course) → Goes past course → seen_of s step.device past ≡ course.seen
   seen-so past course g = seen-now s step.device b past of ∙ g.seen_is
 
-  digest-so : (past : List Event) (course : Course) → Goes past course → digest_of (rows s.facts s.opening past) entry ≡ chosen.release.digest
+  digest-so : (past : List Event) (course : Course) → Goes past course → digest_of (rows s.basis past) entry ≡ chosen.release.digest
   digest-so past course g = ap (λ (o : Option Row). unwrap_or (option_map (λ r. r.digest) o) []) g.row_is ∙ g.digest_is
 
   -- the event that begins the next step, and the past with it
   abbrev starts : Op → List Event → List Event
   starts op past = Event.Start s.client entry op ∷ past
 
-  start-legal : (past : List Event) (course : Course) (op : Op) → Goes past course → is_next (next_step course.trace) op ≡ true → IsLegalUnlimited c s.opening (starts op past)
+  start-legal : (past : List Event) (course : Course) (op : Op) → Goes past course → is_next (next_step course.trace) op ≡ true → IsLegalUnlimited c (starts op past)
   start-legal past course op g next = (
     g.legal,
     record { booted = λ h. g.booted; on = λ h. g.on },
@@ -176,35 +176,35 @@ module _ (s : Scene) (step : PlanStep) (chosen : Chosen) (first : List Seen) (pl
   ended op course = Event.End s.client entry op (Ok tt) (marks op entry chosen.release.digest) (shows_next step.raw course op)
 
   end-shows : (past : List Event) (course : Course) (op : Op) (board : ℕ) → Goes past course → Suits op (mode_of course.seen) → board ≡ b.number
-      → EndShows s.facts first s.opening (starts op past) board (marks op entry chosen.release.digest) (Ok tt) (shows_next step.raw course op)
+      → EndShows s.basis first (starts op past) board (marks op entry chosen.release.digest) (Ok tt) (shows_next step.raw course op)
   end-shows past course op board g suits at =
       let shown : shows_next step.raw course op ≡ board_after op (has_flag DeviceFlag.NeedsReboot course.trace.flags) step.raw g.raw g.mode =
       ap (shown_after op (has_flag DeviceFlag.NeedsReboot course.trace.flags) step.raw) g.home in
-      let here : seen s.facts s.opening (starts op past) board ≡ Seen.Home g.raw g.mode = ap (seen s.facts s.opening past) at ∙ g.seen_is ∙ g.home in
-      let last : home_before s.facts first s.opening (starts op past) board ≡ Seen.Home g.raw g.mode = home-seen s.facts first s.opening (starts op past) board g.raw g.mode here in
+      let here : seen s.basis (starts op past) board ≡ Seen.Home g.raw g.mode = ap (seen s.basis past) at ∙ g.seen_is ∙ g.home in
+      let last : home_before s.basis first (starts op past) board ≡ Seen.Home g.raw g.mode = home-seen s.basis first (starts op past) board g.raw g.mode here in
       let home = after-home op (has_flag DeviceFlag.NeedsReboot course.trace.flags) step.raw g.raw g.mode in
       record {
         stays = ap (λ (x : Seen). is_alike x (shows_next step.raw course op)) here ∙ ap (is_alike (Seen.Home g.raw g.mode)) (shown ∙ home.2);
         home = λ h. ap is_home here;
         raw = λ raw mode e. raw-allowed raw mode last (raw-so op (has_flag DeviceFlag.NeedsReboot course.trace.flags) step.raw g.raw g.mode raw mode (sym shown ∙ e));
-        mode = λ raw mode e. mode-allowed op entry chosen.release.digest (home_before s.facts first s.opening (starts op past) board) g.raw g.mode (has_flag DeviceFlag.NeedsReboot course.trace.flags) step.raw raw mode
+        mode = λ raw mode e. mode-allowed op entry chosen.release.digest (home_before s.basis first (starts op past) board) g.raw g.mode (has_flag DeviceFlag.NeedsReboot course.trace.flags) step.raw raw mode
             last (subst (λ (x : Seen). Suits op (mode_of x)) g.home suits) (sym shown ∙ e);
       }
     where
-      raw-allowed : (raw : ℕ) (mode : Mode) → home_before s.facts first s.opening (starts op past) board ≡ Seen.Home g.raw g.mode → RawSo op (has_flag DeviceFlag.NeedsReboot course.trace.flags) step.raw g.raw raw
-          → RawAllowed s.facts first s.opening (starts op past) board (marks op entry chosen.release.digest) raw
-      raw-allowed raw mode last (inl same) = inl (subst (HasRaw (home_before s.facts first s.opening (starts op past) board)) same (has-raw (home_before s.facts first s.opening (starts op past) board) g.raw g.mode last))
+      raw-allowed : (raw : ℕ) (mode : Mode) → home_before s.basis first (starts op past) board ≡ Seen.Home g.raw g.mode → RawSo op (has_flag DeviceFlag.NeedsReboot course.trace.flags) step.raw g.raw raw
+          → RawAllowed s.basis first (starts op past) board (marks op entry chosen.release.digest) raw
+      raw-allowed raw mode last (inl same) = inl (subst (HasRaw (home_before s.basis first (starts op past) board)) same (has-raw (home_before s.basis first (starts op past) board) g.raw g.mode last))
       raw-allowed raw mode last (inr (write, same)) =
           inr (inr (
             entry,
             chosen.release.digest,
-            Contains-append_right (told s.facts s.opening (starts op past) board) (marks op entry chosen.release.digest) (Mark.Ended entry chosen.release.digest)
+            Contains-append_right (told s.basis (starts op past) board) (marks op entry chosen.release.digest) (Mark.Ended entry chosen.release.digest)
                 (subst (λ (o : Op). Contains (marks o entry chosen.release.digest) (Mark.Ended entry chosen.release.digest)) (sym write) (1, omega arith, refl)),
             g.raw_is ∙ ap (λ (n : ℕ). Some n) same,
           ))
 
   end-legal : (past : List Event) (course : Course) (op : Op) → Goes past course → is_next (next_step course.trace) op ≡ true → Suits op (mode_of course.seen)
-      → IsLegalUnlimited c s.opening (ended op course ∷ starts op past)
+      → IsLegalUnlimited c (ended op course ∷ starts op past)
   end-legal past course op g next suits = (
     start-legal past course op g next,
     record { booted = λ h. g.booted; on = λ h. g.on },
@@ -212,14 +212,14 @@ module _ (s : Scene) (step : PlanStep) (chosen : Chosen) (first : List Seen) (pl
       open_is = opened past course op g;
       told_is = subst (λ (digest : List ℕ). IsPrefix (marks op entry chosen.release.digest) (marks op entry digest)) (sym (digest-so past course g)) (prefix-self (marks op entry chosen.release.digest));
       whole = subst (λ (digest : List ℕ). ToldWhole op (Ok tt) (marks op entry chosen.release.digest) (marks op entry digest)) (sym (digest-so past course g)) (whole-self op (marks op entry chosen.release.digest));
-      shows = λ board t. end-shows past course op board g suits (that-board s (rows s.facts s.opening past) entry board b.number (board-found past course g) t);
+      shows = λ board t. end-shows past course op board g suits (that-board s (rows s.basis past) entry board b.number (board-found past course g) t);
     },
   )
 
   -- the entry's trace has the step then
-  traced-on : (past : List Event) (course : Course) (op : Op) → Goes past course → trace s.facts s.opening entry (ended op course ∷ starts op past) ≡ Some (course_with step.raw course op).trace
+  traced-on : (past : List Event) (course : Course) (op : Op) → Goes past course → trace s.basis entry (ended op course ∷ starts op past) ≡ Some (course_with step.raw course op).trace
   traced-on past course op g =
-      ap (λ (t : Bool). if t then option_map (with_step (record { op = op; outcome = Ok tt; seen = shows_next step.raw course op })) (trace s.facts s.opening entry past) else trace s.facts s.opening entry past) (eqb-self entry)
+      ap (λ (t : Bool). if t then option_map (with_step (record { op = op; outcome = Ok tt; seen = shows_next step.raw course op })) (trace s.basis entry past) else trace s.basis entry past) (eqb-self entry)
       ∙ ap (option_map (with_step (record { op = op; outcome = Ok tt; seen = shows_next step.raw course op }))) g.trace_is
 
   -- with the step the log goes on as the course does
@@ -259,7 +259,7 @@ module _ (s : Scene) (step : PlanStep) (chosen : Chosen) (first : List Seen) (pl
       subst (λ (t : Bool). Goes (if t then shown-after (shown_after op (waits_for_boot s step.device past) step.raw (seen_of s step.device past)) else past) (course_step step.raw course op)) (sym next)
       (go (is_next (next_step course.trace) op) refl)
     where
-      next : is_next (next_op s.facts s.opening past entry) op ≡ is_next (next_step course.trace) op
+      next : is_next (next_op s.basis past entry) op ≡ is_next (next_step course.trace) op
       next = ap (λ (o : Option Trace). is_next (option_and_then next_step o) op) g.trace_is
 
       shown-after : Seen → List Event

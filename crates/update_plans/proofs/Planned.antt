@@ -34,13 +34,13 @@ next-good s number device past step h = of_view (view_of s device past) h
         let parts = and_parts (is_above view chosen) (option_map_or (λ step. is_good s number step past) (step_of view chosen) false) may in
         ap (λ (o : Option PlanStep). option_map_or (λ step. is_good s number step past) o false) (sym e) ∙ parts.1
 
-    of_chosen : (view : DeviceView) (o : Option Chosen) → highest (filter (may_come s number view past) (all_releases s.facts.catalogue)) ≡ o → option_and_then (step_of view) o ≡ Some step → is_good s number step past ≡ true
+    of_chosen : (view : DeviceView) (o : Option Chosen) → highest (filter (may_come s number view past) (all_releases s.basis.facts.catalogue)) ≡ o → option_and_then (step_of view) o ≡ Some step → is_good s number step past ≡ true
     of_chosen view None e h = cc
-    of_chosen view (Some chosen) e h = good view chosen (highest-passes (may_come s number view past) (all_releases s.facts.catalogue) chosen e) h
+    of_chosen view (Some chosen) e h = good view chosen (highest-passes (may_come s number view past) (all_releases s.basis.facts.catalogue) chosen e) h
 
-    of_view : (o : Option DeviceView) → option_and_then (λ view. option_and_then (step_of view) (highest (filter (may_come s number view past) (all_releases s.facts.catalogue)))) o ≡ Some step → is_good s number step past ≡ true
+    of_view : (o : Option DeviceView) → option_and_then (λ view. option_and_then (step_of view) (highest (filter (may_come s number view past) (all_releases s.basis.facts.catalogue)))) o ≡ Some step → is_good s number step past ≡ true
     of_view None h = cc
-    of_view (Some view) h = of_chosen view (highest (filter (may_come s number view past) (all_releases s.facts.catalogue))) refl h
+    of_view (Some view) h = of_chosen view (highest (filter (may_come s number view past) (all_releases s.basis.facts.catalogue))) refl h
 
 -- ---- steps behind others
 
@@ -91,7 +91,7 @@ chains-good s (device ∷ devices) left number past =
 
 pub plan-good : (s : Scene) (past : List Event) → first_bad s 1 (plan s past) past ≡ None
 unfolding plan
-plan-good s past = chains-good s (visited (views s.facts s.opening past)) steps_max 1 past
+plan-good s past = chains-good s (visited (views s.basis past)) steps_max 1 past
 
 -- ---- and has few steps
 
@@ -115,4 +115,4 @@ chains-few s (device ∷ devices) left number past =
 
 pub plan-few : (s : Scene) (past : List Event) → length (plan s past) ≤ 8192
 unfolding plan
-plan-few s past = chains-few s (visited (views s.facts s.opening past)) steps_max 1 past
+plan-few s past = chains-few s (visited (views s.basis past)) steps_max 1 past

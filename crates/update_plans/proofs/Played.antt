@@ -1,5 +1,5 @@
 -- What a play of a step makes of a log, in which nothing was out before: a row more, and what its board shows.
-use Rattle.std.proofs.Common.{◌≡◌, ℕ, suc, ◌+◌, ◌&&◌, ◌==◌, Bool, true, false, List, [], ◌∷◌, ◌++◌, append_assoc, refl, sym, ap, ◌∙◌, arith}
+use Rattle.std.proofs.Common.{◌≡◌, ℕ, suc, ◌&&◌, ◌==◌, Bool, true, false, List, [], ◌∷◌, ◌++◌, append_assoc, refl, sym, ap, ◌∙◌, arith}
 use Rattle.std.specs.Prelude.{All, Option, Some, None, Ok, find, option_map, option_and_then, unwrap_or, if◌then◌else◌}
 use Rattle.std.specs.List.{AllByRecursion, fold}
 use Rattle.std.specs.Str.{bytes_eq}
@@ -45,7 +45,7 @@ each-step client entry (event ∷ steps) a = (a 0 event (omega arith), each-step
 
 -- What steps leave as it is.
 pub record Left (s : Scene) (base whole : List Event) : Type 0 where
-  pub rows_are : rows s.facts s.opening whole ≡ rows s.facts s.opening base
+  pub rows_are : rows s.basis whole ≡ rows s.basis base
   pub live_is : live whole ≡ live base
   pub holds_are : holds whole ≡ holds base
   pub time_is : time_of whole ≡ time_of base
@@ -72,29 +72,29 @@ left s entry (event ∷ steps) base a = of event a.0 (left s entry steps base a.
     of Event.Cut h l = cc
 
 -- They tell of the board of their entry alone.
-pub others-left : (s : Scene) (entry : ℕ) (steps base : List Event) → AreSteps s.client entry steps → (number board : ℕ) → board_of s.facts (rows s.facts s.opening base) entry ≡ Some number → (number == board) ≡ false
-    → seen s.facts s.opening (steps ++ base) board ≡ seen s.facts s.opening base board
+pub others-left : (s : Scene) (entry : ℕ) (steps base : List Event) → AreSteps s.client entry steps → (number board : ℕ) → board_of s.basis.facts (rows s.basis base) entry ≡ Some number → (number == board) ≡ false
+    → seen s.basis (steps ++ base) board ≡ seen s.basis base board
 others-left s entry [] base a number board at other = refl
 others-left s entry (event ∷ steps) base a number board at other = of event a.0 (others-left s entry steps base a.1 number board at other)
   where
-    here : board_of s.facts (rows s.facts s.opening (steps ++ base)) entry ≡ Some number
-    here = let l = left s entry steps base a.1 in ap (λ (all : List Row). board_of s.facts all entry) l.rows_are ∙ at
+    here : board_of s.basis.facts (rows s.basis (steps ++ base)) entry ≡ Some number
+    here = let l = left s entry steps base a.1 in ap (λ (all : List Row). board_of s.basis.facts all entry) l.rows_are ∙ at
 
-    of : (event : Event) → is_step_of s.client entry event ≡ true → seen s.facts s.opening (steps ++ base) board ≡ seen s.facts s.opening base board → seen s.facts s.opening (event ∷ steps ++ base) board ≡ seen s.facts s.opening base board
+    of : (event : Event) → is_step_of s.client entry event ≡ true → seen s.basis (steps ++ base) board ≡ seen s.basis base board → seen s.basis (event ∷ steps ++ base) board ≡ seen s.basis base board
     of (Event.Start client taken op) h rest = rest
     of (Event.End client taken op outcome told shown) h rest =
         let parts = and_parts (client == s.client) (taken == entry) h in
         let same : taken ≡ entry = eqb-true taken entry parts.1 in
-        let none : for_board (board_of s.facts (rows s.facts s.opening (steps ++ base)) taken) board shown ≡ None =
-        ap (λ (n : ℕ). for_board (board_of s.facts (rows s.facts s.opening (steps ++ base)) n) board shown) same
+        let none : for_board (board_of s.basis.facts (rows s.basis (steps ++ base)) taken) board shown ≡ None =
+        ap (λ (n : ℕ). for_board (board_of s.basis.facts (rows s.basis (steps ++ base)) n) board shown) same
         ∙ ap (λ (o : Option ℕ). for_board o board shown) here ∙ ap (λ (t : Bool). if t then Some shown else None) other in
-        ap (λ (o : Option Seen). unwrap_or o (seen s.facts s.opening (steps ++ base) board)) none ∙ rest
+        ap (λ (o : Option Seen). unwrap_or o (seen s.basis (steps ++ base) board)) none ∙ rest
     of _ h rest = cc
 
 -- The entry's trace keeps the flags with which it was taken.
 pub record Traced (s : Scene) (entry : ℕ) (past : List Event) (flags : List Bool) : Type 0 where
   pub t : Trace
-  pub trace_is : trace s.facts s.opening entry past ≡ Some t
+  pub trace_is : trace s.basis entry past ≡ Some t
   pub flags_are : t.flags ≡ flags
 
 pub traced : (s : Scene) (entry : ℕ) (steps base : List Event) (flags : List Bool) → AreSteps s.client entry steps → Traced s entry base flags → Traced s entry (steps ++ base) flags
@@ -133,7 +133,7 @@ pub with-steps : (s : Scene) (step : PlanStep) (chosen : Chosen) (entry : ℕ) (
 with-steps s step chosen entry [] base = record { steps = []; are = tt; whole_is = refl }
 with-steps s step chosen entry (op ∷ ops) base =
     let one : Steps s entry base (with_op s step chosen entry base op) =
-    taken-if (marks op entry chosen.release.digest) (shown_after op (waits_for_boot s step.device base) step.raw (seen_of s step.device base)) (is_next (next_op s.facts s.opening base entry) op) in
+    taken-if (marks op entry chosen.release.digest) (shown_after op (waits_for_boot s step.device base) step.raw (seen_of s step.device base)) (is_next (next_op s.basis base entry) op) in
     let more : Steps s entry (with_op s step chosen entry base op) (fold (with_op s step chosen entry) (with_op s step chosen entry base op) ops) = with-steps s step chosen entry ops (with_op s step chosen entry base op) in
     record {
       steps = more.steps ++ one.steps;
@@ -161,17 +161,17 @@ rows_with all time row entry state = changed (Change.Advance entry state (reason
 
 -- What a play made of the log before it.
 pub record Made (s : Scene) (past ended : List Event) (b : Board) (row : Row) (entry : ℕ) (state : RowState) : Type 0 where
-  pub rows_are : rows s.facts s.opening ended ≡ rows_with (rows s.facts s.opening past) (time_of past) row entry state
+  pub rows_are : rows s.basis ended ≡ rows_with (rows s.basis past) (time_of past) row entry state
   pub none_live : live ended ≡ []
   pub no_hold : holds ended ≡ []
   pub time_is : time_of ended ≡ time_of past
-  pub others : (board : ℕ) → (b.number == board) ≡ false → seen s.facts s.opening ended board ≡ seen s.facts s.opening past board
+  pub others : (board : ℕ) → (b.number == board) ≡ false → seen s.basis ended board ≡ seen s.basis past board
 
-module _ (s : Scene) (number : ℕ) (step : PlanStep) (chosen : Chosen) (past : List Event) (no_hold : holds past ≡ []) (none_live : live past ≡ []) (fresh : row_of (rows s.facts s.opening past) (next_entry s.facts s.opening past) ≡ None)
-    (t : Target) (target_is : target s.facts (views s.facts s.opening past) (request_of s number step chosen) ≡ Some t) (b : Board) (of : IsOf s step.device b) (device_is : t.view.sheet.device ≡ step.device)
-    (blocks : ℕ) (release : ReleaseRef) (fetched : FetchNote) (steps : List Event) (are : AreSteps s.client (next_entry s.facts s.opening past) steps) where
+module _ (s : Scene) (number : ℕ) (step : PlanStep) (chosen : Chosen) (past : List Event) (no_hold : holds past ≡ []) (none_live : live past ≡ []) (fresh : row_of (rows s.basis past) (next_entry s.basis past) ≡ None)
+    (t : Target) (target_is : target s.basis.facts (views s.basis past) (request_of s number step chosen) ≡ Some t) (b : Board) (of : IsOf s step.device b) (device_is : t.view.sheet.device ≡ step.device)
+    (blocks : ℕ) (release : ReleaseRef) (fetched : FetchNote) (steps : List Event) (are : AreSteps s.client (next_entry s.basis past) steps) where
   abbrev entry : ℕ
-  entry = next_entry s.facts s.opening past
+  entry = next_entry s.basis past
 
   abbrev asks : Request
   asks = request_of s number step chosen
@@ -186,12 +186,12 @@ module _ (s : Scene) (number : ℕ) (step : PlanStep) (chosen : Chosen) (past : 
   abbrev pub row : Row
   row = new_row entry (time_of past) s.client asks RowState.Begun t
 
-  rows-begun : rows s.facts s.opening begun ≡ rows s.facts s.opening past ++ row ∷ []
+  rows-begun : rows s.basis begun ≡ rows s.basis past ++ row ∷ []
   rows-begun =
-      ap (λ (o : Option Target). rows_by Fate.Made (option_map (λ t. Change.Add (new_row entry (time_of past) s.client asks RowState.Begun t)) o) (rows s.facts s.opening past)) target_is
+      ap (λ (o : Option Target). rows_by Fate.Made (option_map (λ t. Change.Add (new_row entry (time_of past) s.client asks RowState.Begun t)) o) (rows s.basis past)) target_is
 
-  row-begun : row_of (rows s.facts s.opening begun) entry ≡ Some row
-  row-begun = ap (λ (all : List Row). row_of all entry) rows-begun ∙ find-push_new (λ r. r.entry == entry) (rows s.facts s.opening past) row fresh (eqb-self entry)
+  row-begun : row_of (rows s.basis begun) entry ≡ Some row
+  row-begun = ap (λ (all : List Row). row_of all entry) rows-begun ∙ find-push_new (λ r. r.entry == entry) (rows s.basis past) row fresh (eqb-self entry)
 
   live-begun : live begun ≡ record { client = s.client; entry = entry; blocks = blocks_fetched fetched } ∷ []
   live-begun = rw none_live refl
@@ -202,8 +202,8 @@ module _ (s : Scene) (number : ℕ) (step : PlanStep) (chosen : Chosen) (past : 
   traced-begun : Traced s entry begun (flags_of t.view)
   traced-begun = record { t = first_trace t; trace_is = rw (eqb-self entry, target_is) refl; flags_are = refl }
 
-  at-board : board_of s.facts (rows s.facts s.opening begun) entry ≡ Some b.number
-  at-board = board-of-entry s step.device b (rows s.facts s.opening begun) entry row of row-begun device_is
+  at-board : board_of s.basis.facts (rows s.basis begun) entry ≡ Some b.number
+  at-board = board-of-entry s step.device b (rows s.basis begun) entry row of row-begun device_is
 
   kept : Left s begun last
   kept = left s entry steps begun are
@@ -212,7 +212,7 @@ module _ (s : Scene) (number : ℕ) (step : PlanStep) (chosen : Chosen) (past : 
   pub record Closes : Type 0 where
     pub t_last : Trace
     pub flags_are : t_last.flags ≡ flags_of t.view
-    pub closing_is : closing s.facts s.opening last entry ≡ Some (closing_of t_last row (view_in (live last) (known s.facts s.opening last) b))
+    pub closing_is : closing s.basis last entry ≡ Some (closing_of t_last row (view_in (live last) (known s.basis last) b))
 
   pub closes : Closes
   closes =
@@ -221,16 +221,16 @@ module _ (s : Scene) (number : ℕ) (step : PlanStep) (chosen : Chosen) (past : 
         t_last = r.t;
         flags_are = r.flags_are;
         closing_is =
-            ap (option_and_then (λ t. option_and_then (closing_at (views s.facts s.opening last) t) (row_of (rows s.facts s.opening last) entry))) r.trace_is
-            ∙ ap (option_and_then (closing_at (views s.facts s.opening last) r.t)) row-last
+            ap (option_and_then (λ t. option_and_then (closing_at (views s.basis last) t) (row_of (rows s.basis last) entry))) r.trace_is
+            ∙ ap (option_and_then (closing_at (views s.basis last) r.t)) row-last
             ∙ ap (option_map (closing_of r.t row)) view-last;
       }
     where
-      row-last : row_of (rows s.facts s.opening last) entry ≡ Some row
+      row-last : row_of (rows s.basis last) entry ≡ Some row
       row-last = ap (λ (all : List Row). row_of all entry) kept.rows_are ∙ row-begun
 
-      view-last : view_of_row (views s.facts s.opening last) row ≡ Some (view_in (live last) (known s.facts s.opening last) b)
-      view-last = ap (λ (device : List ℕ). find (λ v. bytes_eq v.sheet.device device) (views s.facts s.opening last)) device_is ∙ view-now s step.device b last of
+      view-last : view_of_row (views s.basis last) row ≡ Some (view_in (live last) (known s.basis last) b)
+      view-last = ap (λ (device : List ℕ). find (λ v. bytes_eq v.sheet.device device) (views s.basis last)) device_is ∙ view-now s step.device b last of
 
   -- and behind it
   abbrev pub ended : RowState → List Event
@@ -240,7 +240,7 @@ module _ (s : Scene) (number : ℕ) (step : PlanStep) (chosen : Chosen) (past : 
   made state = record {
     rows_are =
         ap (λ (all : List Row). changed (Change.Advance entry state (reason_of all entry) (time_of last)) all) (kept.rows_are ∙ rows-begun)
-        ∙ ap (λ (time : ℕ). changed (Change.Advance entry state (reason_of (rows s.facts s.opening past ++ row ∷ []) entry) time) (rows s.facts s.opening past ++ row ∷ [])) kept.time_is;
+        ∙ ap (λ (time : ℕ). changed (Change.Advance entry state (reason_of (rows s.basis past ++ row ∷ []) entry) time) (rows s.basis past ++ row ∷ [])) kept.time_is;
     none_live = ap (without_entry entry) (kept.live_is ∙ live-begun) ∙ gone;
     no_hold = kept.holds_are ∙ holds-begun;
     time_is = kept.time_is;

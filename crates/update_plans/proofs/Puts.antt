@@ -1,6 +1,6 @@
 -- What the calls find and leave that put an install behind a log.
 use Rattle.std.proofs.Common.{◌≡◌, ℕ, ◌+◌, ◌<◌, ◌≤◌, true, false, List, [], ◌∷◌, ◌++◌, length, refl, sym, ap, ◌∙◌, subst, arith, length-append}
-use Rattle.std.specs.Prelude.{Ok, Option, Some, None, IsSome, find, option_map, option_and_then}
+use Rattle.std.specs.Prelude.{Ok, Option, Some, None, IsSome, option_map, option_and_then}
 use Rattle.std.specs.Option.{option_map_or}
 use Rattle.std.proofs.lemmas.Bool.{ltb-true}
 use Rattle.std.proofs.lemmas.Option.{same_Some}
@@ -19,14 +19,13 @@ use Rattle.update_log.specs.declared.answer.ClaimAnswer.{ClaimAnswer}
 use Rattle.update_log.specs.declared.event.Event.{Event}
 use Rattle.update_log.specs.declared.event.Op.{Op}
 use Rattle.update_log.specs.declared.event.Stored.{Stored}
-use Rattle.update_log.specs.declared.facts.Facts.{Facts}
 use Rattle.update_log.specs.declared.refusal.FetchNote.{FetchNote}
 use Rattle.update_log.specs.declared.request.Request.{Request}
 use Rattle.update_log.specs.declared.trace.Trace.{Trace}
-use Rattle.update_log.specs.Core.{Core, Stands}
-use Rattle.update_log.specs.CoreAfter.{IsNext}
+use Rattle.core_state.specs.Core.{Core, Stands}
+use Rattle.update_log.specs.Legal.{IsNext}
 use Rattle.update_log.specs.Holding.{blocks_of, live_entry}
-use Rattle.update_log.specs.Known.{reason_of, rows, views}
+use Rattle.update_log.specs.Known.{Basis, reason_of, rows, views}
 use Rattle.update_log.specs.Legal.{next_entry}
 use Rattle.update_log.specs.Pasts.{past_of, time_of}
 use Rattle.update_log.specs.Shows.{marks}
@@ -56,16 +55,16 @@ digest-of (Some chosen) release e = ap (λ (r : Release). Some r.digest) (same_S
 -- ---- the state
 
 -- rows that an event leaves have room
-pub rows-fit : (facts : Facts) (opening : List Row) (core : Core) → Stands facts opening core → length (rows facts opening (past_of core.log)) ≤ length core.rows + core.row_room
-rows-fit facts opening core s = let e = ap (λ (rs : List Row). length rs) s.rows in omega (arith, e)
+pub rows-fit : (basis : Basis) (core : Core) → Stands basis core → length (rows basis (past_of core.log)) ≤ length core.rows + core.row_room
+rows-fit basis core s = let e = ap (λ (rs : List Row). length rs) s.rows in omega (arith, e)
 
 -- where a step is good there is place for a row
-pub few-rows : (s : Scene) (number : ℕ) (step : PlanStep) (chosen : Chosen) (past : List Event) → is_good_with s number step past chosen ≡ true → length (rows s.facts s.opening past) < 65536
+pub few-rows : (s : Scene) (number : ℕ) (step : PlanStep) (chosen : Chosen) (past : List Event) → is_good_with s number step past chosen ≡ true → length (rows s.basis past) < 65536
 few-rows s number step chosen past good =
     let all = tests s number step chosen past good in
-    ltb-true (length (rows s.facts s.opening past)) 65536 (sym (accepted_twice s number step chosen past all.asked_so) ∙ all.claimed_so)
+    ltb-true (length (rows s.basis past)) 65536 (sym (accepted_twice s number step chosen past all.asked_so) ∙ all.claimed_so)
 
-pub few-good : (s : Scene) (number : ℕ) (step : PlanStep) (past : List Event) → is_good s number step past ≡ true → length (rows s.facts s.opening past) < 65536
+pub few-good : (s : Scene) (number : ℕ) (step : PlanStep) (past : List Event) → is_good s number step past ≡ true → length (rows s.basis past) < 65536
 few-good s number step past h = let g = good-step s number step past h in few-rows s number step g.chosen past g.good
 
 -- and its release is there
@@ -88,7 +87,7 @@ pub record Means (s : Scene) (number : ℕ) (step : PlanStep) (chosen : Chosen) 
   pub request_is : request ≡ request_of s number step chosen
   pub release_is : release ≡ chosen.release
   pub blocks_are : blocks ≡ blocks_of release.size
-  pub entry_is : entry ≡ next_entry s.facts s.opening past
+  pub entry_is : entry ≡ next_entry s.basis past
 
 module _ (s : Scene) (number : ℕ) (step : PlanStep) (chosen : Chosen) (past : List Event) (q : IsQuiet s past) (there : release_at s step.release ≡ Some chosen) (good : is_good_with s number step past chosen ≡ true)
     (request : Request) (release : Release) (blocks entry : ℕ) (m : Means s number step chosen past request release blocks entry) where
@@ -109,26 +108,26 @@ module _ (s : Scene) (number : ℕ) (step : PlanStep) (chosen : Chosen) (past : 
   claimed : MayBe s (taken s number step chosen (asked s number step chosen past))
   claimed = some s number step chosen past q there good [] all_ops refl
 
-  pub ask-next : IsNext s.facts s.opening past (ask_made s step request blocks)
+  pub ask-next : IsNext s.basis past (ask_made s step request blocks)
   ask-next =
       next-of s past (ask_made s step request blocks)
-      (subst (MayBe s) (sym asked-is) (before-event s (asked s number step chosen past) (claim_made s step asks chosen.release (next_entry s.facts s.opening past)) claimed))
+      (subst (MayBe s) (sym asked-is) (before-event s (asked s number step chosen past) (claim_made s step asks chosen.release (next_entry s.basis past)) claimed))
 
-  pub claim-next : (before : List Event) → before ≡ ask_made s step request blocks ∷ past → IsNext s.facts s.opening before (claim_made s step request release entry)
+  pub claim-next : (before : List Event) → before ≡ ask_made s step request blocks ∷ past → IsNext s.basis before (claim_made s step request release entry)
   claim-next before e =
-      subst (λ (p : List Event). IsNext s.facts s.opening p (claim_made s step request release entry)) (sym (e ∙ asked-is))
+      subst (λ (p : List Event). IsNext s.basis p (claim_made s step request release entry)) (sym (e ∙ asked-is))
       (next-of s (asked s number step chosen past) (claim_made s step request release entry) (subst (MayBe s) (sym taken-is) claimed))
 
   f : Found s number step chosen past
   f = let all = tests s number step chosen past good in found s number step chosen past there all.asked_so
 
   pub rows-claimed : (before : List Event) → before ≡ ask_made s step request blocks ∷ past
-      → length (rows s.facts s.opening (claim_made s step request release entry ∷ before)) ≡ length (rows s.facts s.opening past) + 1
+      → length (rows s.basis (claim_made s step request release entry ∷ before)) ≡ length (rows s.basis past) + 1
   rows-claimed before e =
-      ap (λ (p : List Event). length (rows s.facts s.opening (claim_made s step request release entry ∷ p))) (e ∙ asked-is)
-      ∙ ap (λ (p : List Event). length (rows s.facts s.opening p)) taken-is
+      ap (λ (p : List Event). length (rows s.basis (claim_made s step request release entry ∷ p))) (e ∙ asked-is)
+      ∙ ap (λ (p : List Event). length (rows s.basis p)) taken-is
       ∙ ap (λ (rs : List Row). length rs) (rows-begun s number step chosen past q f)
-      ∙ length-append (rows s.facts s.opening past) (row s number step chosen past q f ∷ [])
+      ∙ length-append (rows s.basis past) (row s number step chosen past q f ∷ [])
 
   pub put-taken : (log now next : List Event) → past_of log ≡ past → now ≡ log ++ ask_made s step request blocks ∷ [] → next ≡ now ++ claim_made s step request release entry ∷ []
       → past_of next ≡ with_some s number step chosen [] past
@@ -150,29 +149,29 @@ module _ (s : Scene) (step : PlanStep) (at : Making) (release : Release) (entry 
   made_of : Means s at.number step good-one.chosen at.before request release blocks entry
   made_of = record { request_is = request_is good-one.chosen released; release_is = sym released; blocks_are = blocks_are; entry_is = b.entry_is }
 
-  pub begins-ask : IsNext s.facts s.opening (past_of core.log) (ask_made s step request blocks)
+  pub begins-ask : IsNext s.basis (past_of core.log) (ask_made s step request blocks)
   begins-ask =
-      subst (λ (past : List Event). IsNext s.facts s.opening past (ask_made s step request blocks)) (sym b.before_is)
+      subst (λ (past : List Event). IsNext s.basis past (ask_made s step request blocks)) (sym b.before_is)
       (ask-next s at.number step good-one.chosen at.before b.quiet good-one.there good-one.good request release blocks entry made_of)
 
-  pub begins-ask-rows : length (rows s.facts s.opening (ask_made s step request blocks ∷ past_of core.log)) ≤ length core.rows + core.row_room
-  begins-ask-rows = rows-fit s.facts s.opening core b.stands
+  pub begins-ask-rows : length (rows s.basis (ask_made s step request blocks ∷ past_of core.log)) ≤ length core.rows + core.row_room
+  begins-ask-rows = rows-fit s.basis core b.stands
 
   asked-past : (now : List Event) → now ≡ core.log ++ ask_made s step request blocks ∷ [] → past_of now ≡ ask_made s step request blocks ∷ at.before
   asked-past now e = ap past_of e ∙ past-push core.log (ask_made s step request blocks) ∙ ap (λ (past : List Event). ask_made s step request blocks ∷ past) b.before_is
 
-  pub begins-claim : (now : List Event) → now ≡ core.log ++ ask_made s step request blocks ∷ [] → IsNext s.facts s.opening (past_of now) (claim_made s step request release entry)
+  pub begins-claim : (now : List Event) → now ≡ core.log ++ ask_made s step request blocks ∷ [] → IsNext s.basis (past_of now) (claim_made s step request release entry)
   begins-claim now e =
       claim-next s at.number step good-one.chosen at.before b.quiet good-one.there good-one.good request release blocks entry made_of (past_of now) (asked-past now e)
 
   pub begins-claim-rows : (now : Core) → now.log ≡ core.log ++ ask_made s step request blocks ∷ [] → now.row_room + length now.rows ≡ core.row_room + length core.rows → 1 ≤ core.row_room
-      → length (rows s.facts s.opening (claim_made s step request release entry ∷ past_of now.log)) ≤ length now.rows + now.row_room
+      → length (rows s.basis (claim_made s step request release entry ∷ past_of now.log)) ≤ length now.rows + now.row_room
   begins-claim-rows now e room one =
       let more = rows-claimed s at.number step good-one.chosen at.before b.quiet good-one.there good-one.good request release blocks entry made_of (past_of now.log) (asked-past now.log e) in
-      let have : length core.rows ≡ length (rows s.facts s.opening at.before) = ap (λ (rs : List Row). length rs) (b.stands.rows ∙ ap (rows s.facts s.opening) b.before_is) in
+      let have : length core.rows ≡ length (rows s.basis at.before) = ap (λ (rs : List Row). length rs) (b.stands.rows ∙ ap (rows s.basis) b.before_is) in
       omega (arith, more, have, room, one)
 
-  pub begins-put : (now : List Event) (new : Core) → now ≡ core.log ++ ask_made s step request blocks ∷ [] → new.log ≡ now ++ claim_made s step request release entry ∷ [] → Stands s.facts s.opening new
+  pub begins-put : (now : List Event) (new : Core) → now ≡ core.log ++ ask_made s step request blocks ∷ [] → new.log ≡ now ++ claim_made s step request release entry ∷ [] → Stands s.basis new
       → IsPutting s step (record at { gone = [] }) new
   begins-put now new e f stands = record {
     chosen = good-one.chosen;
@@ -205,9 +204,9 @@ shown-so : (op : Op) (raw : ℕ) (o : Option DeviceView)
 shown-so op raw None = refl
 shown-so op raw (Some view) = refl
 
-module _ (s : Scene) (step : PlanStep) (at : Making) (core : Core) (p : IsPutting s step at core) (entry : ℕ) (same : entry ≡ next_entry s.facts s.opening at.before) where
+module _ (s : Scene) (step : PlanStep) (at : Making) (core : Core) (p : IsPutting s step at core) (entry : ℕ) (same : entry ≡ next_entry s.basis at.before) where
   abbrev own : ℕ
-  own = next_entry s.facts s.opening at.before
+  own = next_entry s.basis at.before
 
   abbrev so_far : List Event
   so_far = with_some s at.number step p.chosen at.gone at.before
@@ -217,11 +216,11 @@ module _ (s : Scene) (step : PlanStep) (at : Making) (core : Core) (p : IsPuttin
       subst (λ (n : ℕ). IsSome (live_entry (past_of core.log) n)) (sym same)
       (subst (λ (past : List Event). IsSome (live_entry past own)) (sym p.past_is) (some-live s at.number step p.chosen at.before p.quiet at.gone))
 
-  module _ (t : Trace) (traced : trace s.facts s.opening entry (past_of core.log) ≡ Some t) (op : Op) where
-    next-is : is_next (next_op s.facts s.opening so_far own) op ≡ is_next (next_step t) op
+  module _ (t : Trace) (traced : trace s.basis entry (past_of core.log) ≡ Some t) (op : Op) where
+    next-is : is_next (next_op s.basis so_far own) op ≡ is_next (next_step t) op
     next-is =
         ap (λ (o : Option Trace). is_next (option_and_then next_step o) op)
-        (ap (λ (n : ℕ). trace s.facts s.opening n so_far) (sym same) ∙ ap (trace s.facts s.opening entry) (sym p.past_is) ∙ traced)
+        (ap (λ (n : ℕ). trace s.basis n so_far) (sym same) ∙ ap (trace s.basis entry) (sym p.past_is) ∙ traced)
 
     -- one that isn't the next
     pub putting-left : is_next (next_step t) op ≡ false → IsPutting s step (record at { gone = at.gone ++ op ∷ [] }) core
@@ -248,7 +247,7 @@ module _ (s : Scene) (step : PlanStep) (at : Making) (core : Core) (p : IsPuttin
       start-is : Event.Start s.client entry op ∷ past_of core.log ≡ Event.Start s.client own op ∷ so_far
       start-is = ap (λ (n : ℕ). Event.Start s.client n op ∷ past_of core.log) same ∙ ap (λ (past : List Event). Event.Start s.client own op ∷ past) p.past_is
 
-      pub start-next : IsNext s.facts s.opening (past_of core.log) (Event.Start s.client entry op)
+      pub start-next : IsNext s.basis (past_of core.log) (Event.Start s.client entry op)
       start-next =
           next-of s (past_of core.log) (Event.Start s.client entry op)
           (subst (MayBe s) (sym start-is) (before-event s (Event.Start s.client own op ∷ so_far) the_end maybe))
@@ -263,16 +262,16 @@ module _ (s : Scene) (step : PlanStep) (at : Making) (core : Core) (p : IsPuttin
             ap (λ (ms : List Mark). Event.End s.client entry op (Ok tt) ms shown)
             (told_is ∙ ap (λ (n : ℕ). marks op n digest) same ∙ ap (marks op own) (sym (same_Some _ _ (sym (ap (option_map (λ (c : Chosen). c.release.digest)) p.there) ∙ digest_is))))
             ∙ ap (λ (x : Seen). Event.End s.client entry op (Ok tt) (marks op own p.chosen.release.digest) x)
-            (shown_is ∙ ap (λ (vs : List DeviceView). shown_on vs op step) (p.stands.views ∙ ap (views s.facts s.opening) p.past_is) ∙ shown-so op step.raw (view_of s step.device so_far))
+            (shown_is ∙ ap (λ (vs : List DeviceView). shown_on vs op step) (p.stands.views ∙ ap (views s.basis) p.past_is) ∙ shown-so op step.raw (view_of s step.device so_far))
             ∙ ap (λ (n : ℕ). Event.End s.client n op (Ok tt) (marks op own p.chosen.release.digest)
             (shown_after op (waits_for_boot s step.device so_far) step.raw (seen_of s step.device so_far))) same
 
-        pub end-next : (before : List Event) → before ≡ Event.Start s.client entry op ∷ past_of core.log → IsNext s.facts s.opening before end_made
+        pub end-next : (before : List Event) → before ≡ Event.Start s.client entry op ∷ past_of core.log → IsNext s.basis before end_made
         end-next before e =
-            subst (λ (past : List Event). IsNext s.facts s.opening past end_made) (sym (e ∙ start-is))
+            subst (λ (past : List Event). IsNext s.basis past end_made) (sym (e ∙ start-is))
             (next-of s (Event.Start s.client own op ∷ so_far) end_made (subst (λ (event : Event). MayBe s (event ∷ Event.Start s.client own op ∷ so_far)) (sym end-is) maybe))
 
-        pub putting-taken : (now next : List Event) (new : Core) → now ≡ core.log ++ Event.Start s.client entry op ∷ [] → next ≡ now ++ end_made ∷ [] → new.log ≡ next → Stands s.facts s.opening new
+        pub putting-taken : (now next : List Event) (new : Core) → now ≡ core.log ++ Event.Start s.client entry op ∷ [] → next ≡ now ++ end_made ∷ [] → new.log ≡ next → Stands s.basis new
             → IsPutting s step (record at { gone = at.gone ++ op ∷ [] }) new
         putting-taken now next new e g n stands = record {
           chosen = p.chosen;
@@ -289,11 +288,11 @@ module _ (s : Scene) (step : PlanStep) (at : Making) (core : Core) (p : IsPuttin
 
 -- ---- the finish
 
-module _ (s : Scene) (step : PlanStep) (at : Making) (core : Core) (p : IsPutting s step (record at { gone = all_ops }) core) (entry : ℕ) (same : entry ≡ next_entry s.facts s.opening at.before) where
+module _ (s : Scene) (step : PlanStep) (at : Making) (core : Core) (p : IsPutting s step (record at { gone = all_ops }) core) (entry : ℕ) (same : entry ≡ next_entry s.basis at.before) where
   -- the trace by which it ends
   pub record Ends : Type 0 where
     pub t : Trace
-    pub traced : trace s.facts s.opening entry (past_of core.log) ≡ Some t
+    pub traced : trace s.basis entry (past_of core.log) ≡ Some t
     pub ends : end_on core.rows core.views step.device entry t ≡ end_of s at.number step p.chosen at.before
 
   found_so : Found s at.number step p.chosen at.before
@@ -307,13 +306,13 @@ module _ (s : Scene) (step : PlanStep) (at : Making) (core : Core) (p : IsPuttin
       record {
         t = t;
         traced =
-            ap (λ (n : ℕ). trace s.facts s.opening n (past_of core.log)) same
-            ∙ ap (trace s.facts s.opening (next_entry s.facts s.opening at.before)) p.past_is ∙ g.trace_is;
+            ap (λ (n : ℕ). trace s.basis n (past_of core.log)) same
+            ∙ ap (trace s.basis (next_entry s.basis at.before)) p.past_is ∙ g.trace_is;
         ends =
             ap (λ (rs : List Row). end_on rs core.views step.device entry t) p.stands.rows
-            ∙ ap (λ (vs : List DeviceView). end_on (rows s.facts s.opening (past_of core.log)) vs step.device entry t) p.stands.views
-            ∙ ap (λ (past : List Event). end_on (rows s.facts s.opening past) (views s.facts s.opening past) step.device entry t) p.past_is
-            ∙ ap (λ (n : ℕ). end_on (rows s.facts s.opening (done s at.number step p.chosen at.before)) (views s.facts s.opening (done s at.number step p.chosen at.before)) step.device n t) same
+            ∙ ap (λ (vs : List DeviceView). end_on (rows s.basis (past_of core.log)) vs step.device entry t) p.stands.views
+            ∙ ap (λ (past : List Event). end_on (rows s.basis past) (views s.basis past) step.device entry t) p.past_is
+            ∙ ap (λ (n : ℕ). end_on (rows s.basis (done s at.number step p.chosen at.before)) (views s.basis (done s at.number step p.chosen at.before)) step.device n t) same
             ∙ end-said s at.number step p.chosen at.before p.quiet p.there p.good t g.trace_is;
       }
 
@@ -324,10 +323,10 @@ module _ (s : Scene) (step : PlanStep) (at : Making) (core : Core) (p : IsPuttin
     finish-is : finish_made ∷ past_of core.log ≡ installed_with s at.number step p.chosen at.before
     finish-is =
         ap (λ (n : ℕ). Event.Finish s.client n state Stored.Yes ∷ past_of core.log) same
-        ∙ ap (λ (x : RowState). Event.Finish s.client (next_entry s.facts s.opening at.before) x Stored.Yes ∷ past_of core.log) state_is
-        ∙ ap (λ (past : List Event). Event.Finish s.client (next_entry s.facts s.opening at.before) (end_of s at.number step p.chosen at.before) Stored.Yes ∷ past) p.past_is
+        ∙ ap (λ (x : RowState). Event.Finish s.client (next_entry s.basis at.before) x Stored.Yes ∷ past_of core.log) state_is
+        ∙ ap (λ (past : List Event). Event.Finish s.client (next_entry s.basis at.before) (end_of s at.number step p.chosen at.before) Stored.Yes ∷ past) p.past_is
 
-    pub finish-next : IsNext s.facts s.opening (past_of core.log) finish_made
+    pub finish-next : IsNext s.basis (past_of core.log) finish_made
     finish-next = next-of s (past_of core.log) finish_made (subst (MayBe s) (sym finish-is) (whole s at.number step p.chosen at.before p.quiet p.there p.good))
 
     pub finished : (next : List Event) → next ≡ core.log ++ finish_made ∷ [] → past_of next ≡ installed s at.number step at.before
@@ -337,6 +336,6 @@ module _ (s : Scene) (step : PlanStep) (at : Making) (core : Core) (p : IsPuttin
         ∙ sym (ap (λ (o : Option Chosen). option_map_or (λ chosen. installed_with s at.number step chosen at.before) o at.before) p.there)
 
 -- a finish adds no row
-pub rows-finished : (facts : Facts) (opening : List Row) (past : List Event) (client entry : ℕ) (state : RowState) → length (rows facts opening (Event.Finish client entry state Stored.Yes ∷ past)) ≡ length (rows facts opening past)
-rows-finished facts opening past client entry state =
-    length-map (rows facts opening past) (with_state entry state (reason_of (rows facts opening past) entry) (time_of past))
+pub rows-finished : (basis : Basis) (past : List Event) (client entry : ℕ) (state : RowState) → length (rows basis (Event.Finish client entry state Stored.Yes ∷ past)) ≡ length (rows basis past)
+rows-finished basis past client entry state =
+    length-map (rows basis past) (with_state entry state (reason_of (rows basis past) entry) (time_of past))

@@ -9,11 +9,10 @@ use Rattle.fw_facts.specs.declared.seen.Seen.{Seen}
 use Rattle.fw_facts.specs.declared.view.DeviceView.{DeviceView}
 use Rattle.history_keeper.specs.declared.row.Row.{Row}
 use Rattle.update_log.specs.declared.event.Event.{Event}
-use Rattle.update_log.specs.declared.facts.Facts.{Facts}
 use Rattle.update_log.specs.declared.live.LiveEntry.{LiveEntry}
 use Rattle.update_log.specs.Boards.{Board, board_with, devices}
 use Rattle.update_log.specs.Holding.{live}
-use Rattle.update_log.specs.Known.{Known, board_of, for_board, is_board_of, known, row_of, rows, seen, tells, view_of as view_in}
+use Rattle.update_log.specs.Known.{Basis, Known, board_of, for_board, is_board_of, known, row_of, rows, seen, tells, view_of as view_in}
 use Rattle.update_log.specs.Shows.{HasRaw, home_before, home_or}
 use Rattle.update_log.proofs.Lists.{by_test, eqb-self}
 use Rattle.update_plans.specs.Plans.{Scene, has_id, seen_of, view_of}
@@ -29,39 +28,39 @@ found-view entries k device (b ∷ bs) =
 
 -- A board is the device of that ID.
 abbrev pub IsOf : Scene → List ℕ → Board → Type 0
-IsOf s device b = find (λ b. bytes_eq b.sheet.device device) (devices s.facts) ≡ Some b
+IsOf s device b = find (λ b. bytes_eq b.sheet.device device) (devices s.basis.facts) ≡ Some b
 
 pub board-of : (s : Scene) (device : List ℕ) (past : List Event) (v : DeviceView) → view_of s device past ≡ Some v → (b : Board) × IsOf s device b
-board-of s device past v e = of (find (λ b. bytes_eq b.sheet.device device) (devices s.facts)) refl
+board-of s device past v e = of (find (λ b. bytes_eq b.sheet.device device) (devices s.basis.facts)) refl
   where
-    of : (o : Option Board) → find (λ b. bytes_eq b.sheet.device device) (devices s.facts) ≡ o → (b : Board) × IsOf s device b
+    of : (o : Option Board) → find (λ b. bytes_eq b.sheet.device device) (devices s.basis.facts) ≡ o → (b : Board) × IsOf s device b
     of (Some b) h = (b, h)
     of None h =
-        let none : view_of s device past ≡ None = found-view (live past) (known s.facts s.opening past) device (devices s.facts) ∙ ap (option_map (view_in (live past) (known s.facts s.opening past))) h in
+        let none : view_of s device past ≡ None = found-view (live past) (known s.basis past) device (devices s.basis.facts) ∙ ap (option_map (view_in (live past) (known s.basis past))) h in
         let bad : None ≡ Some v = sym none ∙ e in
         cc
 
 -- so after any past its view has its board's sheet, and shows what the board does
 pub view-now : (s : Scene) (device : List ℕ) (b : Board) (past : List Event) → IsOf s device b
-    → view_of s device past ≡ Some (view_in (live past) (known s.facts s.opening past) b)
+    → view_of s device past ≡ Some (view_in (live past) (known s.basis past) b)
 view-now s device b past h =
-    found-view (live past) (known s.facts s.opening past) device (devices s.facts) ∙ ap (option_map (view_in (live past) (known s.facts s.opening past))) h
+    found-view (live past) (known s.basis past) device (devices s.basis.facts) ∙ ap (option_map (view_in (live past) (known s.basis past))) h
 
-pub seen-now : (s : Scene) (device : List ℕ) (b : Board) (past : List Event) → IsOf s device b → seen_of s device past ≡ seen s.facts s.opening past b.number
+pub seen-now : (s : Scene) (device : List ℕ) (b : Board) (past : List Event) → IsOf s device b → seen_of s device past ≡ seen s.basis past b.number
 seen-now s device b past h = ap (λ (o : Option DeviceView). option_map_or (λ view. view.seen) o Seen.Gone) (view-now s device b past h)
 
 -- ---- the board of an entry
 
-pub board-with : (s : Scene) (device : List ℕ) (b : Board) → IsOf s device b → board_with s.facts device ≡ Some b.number
+pub board-with : (s : Scene) (device : List ℕ) (b : Board) → IsOf s device b → board_with s.basis.facts device ≡ Some b.number
 board-with s device b h = ap (option_map (λ b. b.number)) h
 
 pub board-of-entry : (s : Scene) (device : List ℕ) (b : Board) (rows : List Row) (entry : ℕ) (row : Row) → IsOf s device b → row_of rows entry ≡ Some row → row.device ≡ device
-    → board_of s.facts rows entry ≡ Some b.number
+    → board_of s.basis.facts rows entry ≡ Some b.number
 board-of-entry s device b rows entry row h found same =
-    ap (option_and_then (λ r. board_with s.facts r.device)) found ∙ ap (board_with s.facts) same ∙ board-with s device b h
+    ap (option_and_then (λ r. board_with s.basis.facts r.device)) found ∙ ap (board_with s.basis.facts) same ∙ board-with s device b h
 
 -- and no other board is
-pub that-board : (s : Scene) (rows : List Row) (entry board number : ℕ) → board_of s.facts rows entry ≡ Some number → IsTrue (is_board_of s.facts rows entry board) → board ≡ number
+pub that-board : (s : Scene) (rows : List Row) (entry board number : ℕ) → board_of s.basis.facts rows entry ≡ Some number → IsTrue (is_board_of s.basis.facts rows entry board) → board ≡ number
 that-board s rows entry board number e t =
     let same : (number == board) ≡ true = ap (λ (o : Option ℕ). unwrap_or (option_map (λ b. b == board) o) false) (sym e) ∙ t in
     sym (eqb-true number board same)
@@ -69,20 +68,20 @@ that-board s rows entry board number e t =
 -- ---- what it shows
 
 -- the end of a step of its entry
-pub seen-ended : (s : Scene) (b : Board) (past : List Event) (client entry : ℕ) (event : Event) (shown : Seen) → board_of s.facts (rows s.facts s.opening past) entry ≡ Some b.number
-    → tells s.facts (live past) (known s.facts s.opening past) event b.number ≡ for_board (board_of s.facts (rows s.facts s.opening past) entry) b.number shown
-    → seen s.facts s.opening (event ∷ past) b.number ≡ shown
+pub seen-ended : (s : Scene) (b : Board) (past : List Event) (client entry : ℕ) (event : Event) (shown : Seen) → board_of s.basis.facts (rows s.basis past) entry ≡ Some b.number
+    → tells s.basis.facts (live past) (known s.basis past) event b.number ≡ for_board (board_of s.basis.facts (rows s.basis past) entry) b.number shown
+    → seen s.basis (event ∷ past) b.number ≡ shown
 seen-ended s b past client entry event shown at told =
-    ap (λ (o : Option Seen). unwrap_or o (seen s.facts s.opening past b.number)) (told ∙ ap (λ (o : Option ℕ). for_board o b.number shown) at ∙ ap (λ (t : Bool). if t then Some shown else None) (eqb-self b.number))
+    ap (λ (o : Option Seen). unwrap_or o (seen s.basis past b.number)) (told ∙ ap (λ (o : Option ℕ). for_board o b.number shown) at ∙ ap (λ (t : Bool). if t then Some shown else None) (eqb-self b.number))
 
 -- A board that is seen at home was last shown at home so.
-pub home-seen : (facts : Facts) (first : List Seen) (opening : List Row) (past : List Event) (board raw : ℕ) (mode : Mode)
-    → seen facts opening past board ≡ Seen.Home raw mode → home_before facts first opening past board ≡ Seen.Home raw mode
-home-seen facts first opening [] board raw mode e = cc
-home-seen facts first opening (event ∷ past) board raw mode e = of (tells facts (live past) (known facts opening past) event board) e (λ h. home-seen facts first opening past board raw mode h)
+pub home-seen : (basis : Basis) (first : List Seen) (past : List Event) (board raw : ℕ) (mode : Mode)
+    → seen basis past board ≡ Seen.Home raw mode → home_before basis first past board ≡ Seen.Home raw mode
+home-seen basis first [] board raw mode e = cc
+home-seen basis first (event ∷ past) board raw mode e = of (tells basis.facts (live past) (known basis past) event board) e (λ h. home-seen basis first past board raw mode h)
   where
-    of : (o : Option Seen) → unwrap_or o (seen facts opening past board) ≡ Seen.Home raw mode
-        → (seen facts opening past board ≡ Seen.Home raw mode → home_before facts first opening past board ≡ Seen.Home raw mode) → home_or o (home_before facts first opening past board) ≡ Seen.Home raw mode
+    of : (o : Option Seen) → unwrap_or o (seen basis past board) ≡ Seen.Home raw mode
+        → (seen basis past board ≡ Seen.Home raw mode → home_before basis first past board ≡ Seen.Home raw mode) → home_or o (home_before basis first past board) ≡ Seen.Home raw mode
     of None h before = before h
     of (Some (Seen.Home raw' mode')) h before = h
     of (Some Seen.Gone) h before = cc

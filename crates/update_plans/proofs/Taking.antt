@@ -15,7 +15,7 @@ use Rattle.fw_facts.specs.Views.{guids_of, guids_shown}
 use Rattle.release_catalogue.specs.declared.reference.ReleaseRef.{ReleaseRef}
 use Rattle.update_log.specs.declared.event.Event.{Event}
 use Rattle.update_log.specs.Boards.{Board, devices}
-use Rattle.update_log.specs.Core.{Core, Stands}
+use Rattle.core_state.specs.Core.{Core, Stands}
 use Rattle.update_log.specs.Holding.{live}
 use Rattle.update_log.specs.Known.{known, view_of as view_in, views}
 use Rattle.update_log.specs.Pasts.{past_of}
@@ -65,30 +65,30 @@ own-found (x ∷ bs) differ (suc at) b e =
 
 record OfBoard (s : Scene) (past : List Event) (at : ℕ) (v : DeviceView) : Type 0 where
   b : Board
-  there : slice_get (devices s.facts) at ≡ Some b
-  view_is : v ≡ view_in (live past) (known s.facts s.opening past) b
+  there : slice_get (devices s.basis.facts) at ≡ Some b
+  view_is : v ≡ view_in (live past) (known s.basis past) b
 
-of-board : (s : Scene) (past : List Event) (at : ℕ) (v : DeviceView) → slice_get (views s.facts s.opening past) at ≡ Some v → OfBoard s past at v
-of-board s past at v e = of (slice_get (devices s.facts) at) refl (sym (get-map (view_in (live past) (known s.facts s.opening past)) (devices s.facts) at) ∙ e)
+of-board : (s : Scene) (past : List Event) (at : ℕ) (v : DeviceView) → slice_get (views s.basis past) at ≡ Some v → OfBoard s past at v
+of-board s past at v e = of (slice_get (devices s.basis.facts) at) refl (sym (get-map (view_in (live past) (known s.basis past)) (devices s.basis.facts) at) ∙ e)
   where
-    of : (o : Option Board) → slice_get (devices s.facts) at ≡ o → option_map (view_in (live past) (known s.facts s.opening past)) o ≡ Some v → OfBoard s past at v
+    of : (o : Option Board) → slice_get (devices s.basis.facts) at ≡ o → option_map (view_in (live past) (known s.basis past)) o ≡ Some v → OfBoard s past at v
     of None there h = cc
     of (Some b) there h = record { b = b; there = there; view_is = sym (same_Some _ _ h) }
 
 -- the device at a place is the one of its ID
-pub own-view : (s : Scene) (past : List Event) (at : ℕ) (v : DeviceView) → slice_get (views s.facts s.opening past) at ≡ Some v → view_of s v.sheet.device past ≡ Some v
+pub own-view : (s : Scene) (past : List Event) (at : ℕ) (v : DeviceView) → slice_get (views s.basis past) at ≡ Some v → view_of s v.sheet.device past ≡ Some v
 own-view s past at v e =
     let o = of-board s past at v e in
     subst (λ (x : DeviceView). view_of s x.sheet.device past ≡ Some x) (sym o.view_is)
-    (view-now s o.b.sheet.device o.b past (own-found (devices s.facts) (devices-differ s.facts) at o.b o.there))
+    (view-now s o.b.sheet.device o.b past (own-found (devices s.basis.facts) (devices-differ s.basis.facts) at o.b o.there))
 
-pub own-device : (s : Scene) (core : Core) (at : ℕ) (v : DeviceView) → Stands s.facts s.opening core → slice_get core.views at ≡ Some v → view_of s (device_at core.views at) (past_of core.log) ≡ Some v
+pub own-device : (s : Scene) (core : Core) (at : ℕ) (v : DeviceView) → Stands s.basis core → slice_get core.views at ≡ Some v → view_of s (device_at core.views at) (past_of core.log) ≡ Some v
 own-device s core at v stands e =
-    let here : slice_get (views s.facts s.opening (past_of core.log)) at ≡ Some v = ap (λ (vs : List DeviceView). slice_get vs at) (sym stands.views) ∙ e in
+    let here : slice_get (views s.basis (past_of core.log)) at ≡ Some v = ap (λ (vs : List DeviceView). slice_get vs at) (sym stands.views) ∙ e in
     ap (λ (o : Option DeviceView). view_of s (option_map_or (λ view. view.sheet.device) o []) (past_of core.log)) e ∙ own-view s (past_of core.log) at v here
 
 -- it keeps its place, its ID and its sheet
-module _ (s : Scene) (old new : Core) (at : ℕ) (before : Stands s.facts s.opening old) (after : Stands s.facts s.opening new) where
+module _ (s : Scene) (old new : Core) (at : ℕ) (before : Stands s.basis old) (after : Stands s.basis new) where
   pub device-kept : device_at new.views at ≡ device_at old.views at
   device-kept =
       ap (λ (vs : List DeviceView). device_at vs at) after.views ∙ device-stays s (past_of old.log) (past_of new.log) at
@@ -126,16 +126,16 @@ module _ (s : Scene) (old new : Core) (at : ℕ) (before : Stands s.facts s.open
 
 module _ (s : Scene) (number : ℕ) (view : DeviceView) (shown : List ℕ) (past : List Event) where
   -- it isn't there, or isn't above, or is good, or isn't
-  pub none-there : (at : ReleaseRef) (more : Option PlanStep) → version_found s.facts at ≡ None → tried_at s number view shown past at more (version_found s.facts at) ≡ None
+  pub none-there : (at : ReleaseRef) (more : Option PlanStep) → version_found s.basis.facts at ≡ None → tried_at s number view shown past at more (version_found s.basis.facts at) ≡ None
   none-there at more e = ap (tried_at s number view shown past at more) e
 
-  pub not-above : (at : ReleaseRef) (more : Option PlanStep) (version : List ℕ) → version_found s.facts at ≡ Some version → is_gt (version_cmp version shown) ≡ false
-      → tried_at s number view shown past at more (version_found s.facts at) ≡ None
+  pub not-above : (at : ReleaseRef) (more : Option PlanStep) (version : List ℕ) → version_found s.basis.facts at ≡ Some version → is_gt (version_cmp version shown) ≡ false
+      → tried_at s number view shown past at more (version_found s.basis.facts at) ≡ None
   not-above at more version e f =
       ap (tried_at s number view shown past at more) e ∙ ap (λ (b : Bool). if b then first_some (good_step s number view at version past) more else None) f
 
-  pub first-tried : (at : ReleaseRef) (more : Option PlanStep) (version : List ℕ) (found : Option PlanStep) → version_found s.facts at ≡ Some version → is_gt (version_cmp version shown) ≡ true
-      → found ≡ good_step s number view at version past → tried_at s number view shown past at more (version_found s.facts at) ≡ first_some found more
+  pub first-tried : (at : ReleaseRef) (more : Option PlanStep) (version : List ℕ) (found : Option PlanStep) → version_found s.basis.facts at ≡ Some version → is_gt (version_cmp version shown) ≡ true
+      → found ≡ good_step s number view at version past → tried_at s number view shown past at more (version_found s.basis.facts at) ≡ first_some found more
   first-tried at more version found e f g =
       ap (tried_at s number view shown past at more) e ∙ ap (λ (b : Bool). if b then first_some (good_step s number view at version past) more else None) f
       ∙ ap (λ (o : Option PlanStep). first_some o more) (sym g)
@@ -210,7 +210,7 @@ pub after-nil : (s : Scene) (before : List Event) → before ≡ after s 1 [] be
 unfolding after
 after-nil s before = refl
 
-pub plan-is : (s : Scene) (before : List Event) → plan s before ≡ chains s (map (device_at (views s.facts s.opening before)) (walk (views s.facts s.opening before))) 8192 1 before
+pub plan-is : (s : Scene) (before : List Event) → plan s before ≡ chains s (map (device_at (views s.basis before)) (walk (views s.basis before))) 8192 1 before
 unfolding plan
 plan-is s before = refl
 
@@ -222,7 +222,7 @@ drop-got {X} xs i x e =
     drop-cons xs i x there.within ∙ ap (λ (y : X). y ∷ drop (suc i) xs) there.is ∙ ap (λ (n : ℕ). x ∷ drop n xs) (sym (add-one i))
 
 pub tried-got : (s : Scene) (number : ℕ) (view : DeviceView) (shown : List ℕ) (past : List Event) (places : List ReleaseRef) (i : ℕ) (at : ReleaseRef) → slice_get places i ≡ Some at
-    → tried s number view shown past (drop i places) ≡ tried_at s number view shown past at (tried s number view shown past (drop (i + 1) places)) (version_found s.facts at)
+    → tried s number view shown past (drop i places) ≡ tried_at s number view shown past at (tried s number view shown past (drop (i + 1) places)) (version_found s.basis.facts at)
 tried-got s number view shown past places i at e = ap (tried s number view shown past) (drop-got places i at e)
 
 pub good-got : (s : Scene) (steps : List PlanStep) (i : ℕ) (step : PlanStep) (past now : List Event) → slice_get steps i ≡ Some step → is_good s (i + 1) step past ≡ true

@@ -92,32 +92,32 @@ placed-once components a b p q same =
 -- The request of a step found its device at home, and that very release; no row has its tag, and nothing refuses it.
 pub record Found (s : Scene) (number : ℕ) (step : PlanStep) (chosen : Chosen) (past : List Event) : Type 0 where
   pub t : Target
-  pub target_is : target s.facts (views s.facts s.opening past) (request_of s number step chosen) ≡ Some t
+  pub target_is : target s.basis.facts (views s.basis past) (request_of s number step chosen) ≡ Some t
   pub chosen_is : t.chosen ≡ chosen
   pub at_is : step.release ≡ chosen.at
   pub view_is : view_of s step.device past ≡ Some t.view
   pub home : is_home t.view.seen ≡ true
   pub provided : provides (guids_of t.view) t.chosen.component ≡ true
-  pub fresh : row_with_tag (rows s.facts s.opening past) (step_tag s number) ≡ None
-  pub decided_is : verdict s.facts s.opening past s.client (request_of s number step chosen) Stage.Ask ≡ Decision.Accept t.place t.chosen.at (need t)
-  pub free : first_refusal (refusals (case_of s.facts s.opening past s.client (request_of s number step chosen) Stage.Ask) t) ≡ None
+  pub fresh : row_with_tag (rows s.basis past) (step_tag s number) ≡ None
+  pub decided_is : verdict s.basis past s.client (request_of s number step chosen) Stage.Ask ≡ Decision.Accept t.place t.chosen.at (need t)
+  pub free : first_refusal (refusals (case_of s.basis past s.client (request_of s number step chosen) Stage.Ask) t) ≡ None
 
 module _ (s : Scene) (number : ℕ) (step : PlanStep) (chosen : Chosen) (past : List Event) (there : release_at s step.release ≡ Some chosen) where
   abbrev devices_now : List DeviceView
-  devices_now = views s.facts s.opening past
+  devices_now = views s.basis past
 
   abbrev asks : Request
   asks = request_of s number step chosen
 
   abbrev at_ask : Case
-  at_ask = case_of s.facts s.opening past s.client asks Stage.Ask
+  at_ask = case_of s.basis past s.client asks Stage.Ask
 
   -- what is known of the device so far
   record Here (at : ℕ) (view : DeviceView) : Type 0 where
     place_is : place (Selector.Id step.device) devices_now ≡ Some at
     view_at : slice_get devices_now at ≡ Some view
     home : is_home view.seen ≡ true
-    fresh : row_with_tag (rows s.facts s.opening past) (step_tag s number) ≡ None
+    fresh : row_with_tag (rows s.basis past) (step_tag s number) ≡ None
 
   of-target : (at : ℕ) (view : DeviceView) (t : Target) (o : Option Chosen) → option_map (λ (c : Chosen). record { place = at; view = view; chosen = c }) o ≡ Some t
       → (t.view ≡ view) × (o ≡ Some t.chosen)
@@ -137,18 +137,18 @@ module _ (s : Scene) (number : ℕ) (step : PlanStep) (chosen : Chosen) (past : 
       ∙ ap (option_and_then (λ v. if is_home v.seen then Some at else None)) here.view_at
       ∙ ap (λ (b : Bool). if b then Some at else None) here.home
 
-  accepted : (at : ℕ) (view : DeviceView) → Here at view → (t : Target) → target s.facts devices_now asks ≡ Some t
+  accepted : (at : ℕ) (view : DeviceView) → Here at view → (t : Target) → target s.basis.facts devices_now asks ≡ Some t
       → (refusal : Option Refusal) → first_refusal (refusals at_ask t) ≡ refusal → accepts step.release (refused_or refusal (Decision.Accept t.place t.chosen.at (need t))) ≡ true
       → Found s number step chosen past
   accepted at view here t e (Some refusal) r h = cc
   accepted at view here t e None r h =
-      let by_place : target_at s.facts devices_now asks.version at ≡ Some t = ap (option_and_then (target_at s.facts devices_now asks.version)) (sym here.place_is) ∙ e in
-      let by_view : target_of s.facts asks.version at view ≡ Some t = ap (option_and_then (target_of s.facts asks.version at)) (sym here.view_at) ∙ by_place in
-      let parts = of-target at view t (chosen_for s.facts.catalogue (guids_of view) asks.version) by_view in
+      let by_place : target_at s.basis.facts devices_now asks.version at ≡ Some t = ap (option_and_then (target_at s.basis.facts devices_now asks.version)) (sym here.place_is) ∙ e in
+      let by_view : target_of s.basis.facts asks.version at view ≡ Some t = ap (option_and_then (target_of s.basis.facts asks.version at)) (sym here.view_at) ∙ by_place in
+      let parts = of-target at view t (chosen_for s.basis.facts.catalogue (guids_of view) asks.version) by_view in
       let that : t.chosen.at ≡ step.release = release-same t.chosen.at step.release h in
-      let stood = stands s.facts.catalogue step.release chosen there in
+      let stood = stands s.basis.facts.catalogue step.release chosen there in
       let one : t.chosen ≡ chosen =
-      placed-once s.facts.catalogue t.chosen chosen (chosen-placed s.facts.catalogue (guids_of view) asks.version t.chosen parts.1) stood.placed (that ∙ sym stood.at_is) in
+      placed-once s.basis.facts.catalogue t.chosen chosen (chosen-placed s.basis.facts.catalogue (guids_of view) asks.version t.chosen parts.1) stood.placed (that ∙ sym stood.at_is) in
       record {
         t = t;
         target_is = e;
@@ -156,7 +156,7 @@ module _ (s : Scene) (number : ℕ) (step : PlanStep) (chosen : Chosen) (past : 
         at_is = sym stood.at_is;
         view_is = view-found at view here ∙ ap (λ (v : DeviceView). Some v) (sym parts.0);
         home = ap (λ (v : DeviceView). is_home v.seen) parts.0 ∙ here.home;
-        provided = ap (λ (v : DeviceView). provides (guids_of v) t.chosen.component) parts.0 ∙ chosen-provides s.facts.catalogue (guids_of view) asks.version t.chosen parts.1;
+        provided = ap (λ (v : DeviceView). provides (guids_of v) t.chosen.component) parts.0 ∙ chosen-provides s.basis.facts.catalogue (guids_of view) asks.version t.chosen parts.1;
         fresh = here.fresh;
         decided_is =
             ap (on_kept at_ask) here.fresh
@@ -166,39 +166,39 @@ module _ (s : Scene) (number : ℕ) (step : PlanStep) (chosen : Chosen) (past : 
         free = r;
       }
 
-  on-target : (at : ℕ) (view : DeviceView) → Here at view → (o : Option Target) → target s.facts devices_now asks ≡ o → accepts step.release (on_found at_ask o) ≡ true → Found s number step chosen past
+  on-target : (at : ℕ) (view : DeviceView) → Here at view → (o : Option Target) → target s.basis.facts devices_now asks ≡ o → accepts step.release (on_found at_ask o) ≡ true → Found s number step chosen past
   on-target at view here None e h = cc
   on-target at view here (Some t) e h = accepted at view here t e (first_refusal (refusals at_ask t)) refl h
 
-  at-home : (at : ℕ) (view : DeviceView) → place (Selector.Id step.device) devices_now ≡ Some at → slice_get devices_now at ≡ Some view → row_with_tag (rows s.facts s.opening past) (step_tag s number) ≡ None
+  at-home : (at : ℕ) (view : DeviceView) → place (Selector.Id step.device) devices_now ≡ Some at → slice_get devices_now at ≡ Some view → row_with_tag (rows s.basis past) (step_tag s number) ≡ None
       → (b : Bool) → is_home view.seen ≡ b → accepts step.release (on_present at_ask (if b then Some at else None)) ≡ true → Found s number step chosen past
-  at-home at view p v f true b h = on-target at view (record { place_is = p; view_at = v; home = b; fresh = f }) (target s.facts devices_now asks) refl h
+  at-home at view p v f true b h = on-target at view (record { place_is = p; view_at = v; home = b; fresh = f }) (target s.basis.facts devices_now asks) refl h
   at-home at view p v f false b h = cc
 
-  at-view : (at : ℕ) → place (Selector.Id step.device) devices_now ≡ Some at → row_with_tag (rows s.facts s.opening past) (step_tag s number) ≡ None → (o : Option DeviceView) → slice_get devices_now at ≡ o
+  at-view : (at : ℕ) → place (Selector.Id step.device) devices_now ≡ Some at → row_with_tag (rows s.basis past) (step_tag s number) ≡ None → (o : Option DeviceView) → slice_get devices_now at ≡ o
       → accepts step.release (on_present at_ask (option_and_then (λ view. if is_home view.seen then Some at else None) o)) ≡ true → Found s number step chosen past
   at-view at p f None v h = cc
   at-view at p f (Some view) v h = at-home at view p v f (is_home view.seen) refl h
 
-  at-place : row_with_tag (rows s.facts s.opening past) (step_tag s number) ≡ None → (o : Option ℕ) → place (Selector.Id step.device) devices_now ≡ o
+  at-place : row_with_tag (rows s.basis past) (step_tag s number) ≡ None → (o : Option ℕ) → place (Selector.Id step.device) devices_now ≡ o
       → accepts step.release (on_present at_ask (option_and_then (λ at. option_and_then (λ view. if is_home view.seen then Some at else None) (slice_get devices_now at)) o)) ≡ true
       → Found s number step chosen past
   at-place f None p h = cc
   at-place f (Some at) p h = at-view at p f (slice_get devices_now at) refl h
 
-  on-kept : (row : Option Row) → row_with_tag (rows s.facts s.opening past) (step_tag s number) ≡ row → accepts step.release (on_kept at_ask row) ≡ true → Found s number step chosen past
+  on-kept : (row : Option Row) → row_with_tag (rows s.basis past) (step_tag s number) ≡ row → accepts step.release (on_kept at_ask row) ≡ true → Found s number step chosen past
   on-kept None f h = at-place f (place (Selector.Id step.device) devices_now) refl h
   on-kept (Some row) f h = cc
 
-  pub found : accepts step.release (verdict s.facts s.opening past s.client asks Stage.Ask) ≡ true → Found s number step chosen past
-  found h = on-kept (row_with_tag (rows s.facts s.opening past) (step_tag s number)) refl h
+  pub found : accepts step.release (verdict s.basis past s.client asks Stage.Ask) ≡ true → Found s number step chosen past
+  found h = on-kept (row_with_tag (rows s.basis past) (step_tag s number)) refl h
 
 -- ---- the tests of a good step
 
 pub record Tests (s : Scene) (number : ℕ) (step : PlanStep) (chosen : Chosen) (past : List Event) : Type 0 where
   pub written : writes s step chosen past ≡ true
-  pub asked_so : accepts step.release (verdict s.facts s.opening past s.client (request_of s number step chosen) Stage.Ask) ≡ true
-  pub claimed_so : accepts step.release (verdict s.facts s.opening (asked s number step chosen past) s.client (request_of s number step chosen) (Stage.Claim step.release)) ≡ true
+  pub asked_so : accepts step.release (verdict s.basis past s.client (request_of s number step chosen) Stage.Ask) ≡ true
+  pub claimed_so : accepts step.release (verdict s.basis (asked s number step chosen past) s.client (request_of s number step chosen) (Stage.Claim step.release)) ≡ true
   pub ended_so : is_ended (end_of s number step chosen past) ≡ true
 
 four-true : (w a c e : Bool) → (w && a && c && e) ≡ true → (w ≡ true) × (a ≡ true) × (c ≡ true) × (e ≡ true)
@@ -211,6 +211,6 @@ four-true w a c e h =
 pub tests : (s : Scene) (number : ℕ) (step : PlanStep) (chosen : Chosen) (past : List Event) → is_good_with s number step past chosen ≡ true → Tests s number step chosen past
 tests s number step chosen past good =
     let all =
-    four-true (writes s step chosen past) (accepts step.release (verdict s.facts s.opening past s.client (request_of s number step chosen) Stage.Ask))
-    (accepts step.release (verdict s.facts s.opening (asked s number step chosen past) s.client (request_of s number step chosen) (Stage.Claim step.release))) (is_ended (end_of s number step chosen past)) good in
+    four-true (writes s step chosen past) (accepts step.release (verdict s.basis past s.client (request_of s number step chosen) Stage.Ask))
+    (accepts step.release (verdict s.basis (asked s number step chosen past) s.client (request_of s number step chosen) (Stage.Claim step.release))) (is_ended (end_of s number step chosen past)) good in
     record { written = all.0; asked_so = all.1; claimed_so = all.2; ended_so = all.3 }

@@ -46,6 +46,6 @@ walk-within all =
     (λ p b. visit-within (related all) (length all) (omega (arith, same)) (length (related all)) p b)
 
 -- There are as many devices, whatever happens.
-pub as-many : (s : Scene) (past now : List Event) → length (views s.facts s.opening now) ≡ length (views s.facts s.opening past)
+pub as-many : (s : Scene) (past now : List Event) → length (views s.basis now) ≡ length (views s.basis past)
 as-many s past now =
-    length-map (devices s.facts) (view_of (live now) (known s.facts s.opening now)) ∙ sym (length-map (devices s.facts) (view_of (live past) (known s.facts s.opening past)))
+    length-map (devices s.basis.facts) (view_of (live now) (known s.basis now)) ∙ sym (length-map (devices s.basis.facts) (view_of (live past) (known s.basis past)))

@@ -73,7 +73,7 @@ tried_at s number view shown past at more (Some version) =
 abbrev pub tried : Scene → ℕ → DeviceView → List ℕ → List Event → List ReleaseRef → Option PlanStep
 tried s number view shown past [] = None
 tried s number view shown past (at ∷ rest) =
-    tried_at s number view shown past at (tried s number view shown past rest) (version_found s.facts at)
+    tried_at s number view shown past at (tried s number view shown past rest) (version_found s.basis.facts at)
 
 -- The side that a port shows, of a board that is there.
 abbrev pub side_of : Seen → Option Mode

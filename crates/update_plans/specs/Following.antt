@@ -2,6 +2,7 @@
 use Rattle.std.specs.Prelude.{◌≡◌, ◌≢◌, ℕ, ◌+◌, ◌<◌, Bool, true, false, ◌&&◌, ◌==◌, List, [], ◌∷◌, ◌++◌, All, length, Option, Some, None}
 use Rattle.std.specs.Str.{bytes_eq}
 use Rattle.fw_facts.specs.declared.seen.Mode.{Mode}
+use Rattle.fw_facts.specs.declared.seen.Seen.{Seen}
 use Rattle.fw_facts.specs.declared.view.DeviceView.{DeviceView}
 use Rattle.fw_facts.specs.Views.{version_of}
 use Rattle.history_keeper.specs.Histories.{IsHistory}
@@ -11,9 +12,9 @@ use Rattle.release_catalogue.specs.declared.reference.ReleaseRef.{ReleaseRef}
 use Rattle.update_log.specs.Holding.{holds, live}
 use Rattle.update_log.specs.Legal.{BelowLimit, IsLegal, IsLegalUnlimited}
 use Rattle.update_log.specs.Pasts.{boots, off}
-use Rattle.update_log.specs.Shows.{Campaign}
 use Rattle.update_log.specs.Steps.{in_runtime, mode_of}
 use Rattle.update_log.specs.Verdicts.{verdict}
+use Rattle.update_log.specs.Shows.{campaign_on}
 use Rattle.update_log.specs.declared.answer.AskAnswer.{AskAnswer}
 use Rattle.update_log.specs.declared.answer.ClaimAnswer.{ClaimAnswer}
 use Rattle.update_log.specs.declared.decision.Stage.{Stage}
@@ -22,15 +23,16 @@ use Rattle.update_log.specs.declared.event.Stored.{Stored}
 use Rattle.update_log.specs.declared.refusal.FetchNote.{FetchNote}
 use Rattle.update_plans.specs.Plans.{Scene, accepts, first_bad, installed, is_ended, release_at, request_of, view_of}
 use Rattle.update_plans.specs.declared.plan.PlanStep.{PlanStep}
+use Rattle.update_log.specs.declared.facts.BootPlan.{BootPlan}
 
--- A plan may be made over the past: it is legal in some campaign with these facts, or would be if its boots had no
+-- A plan may be made over the past: it is legal in some campaign over its basis, or would be if its boots had no
 -- limit; the history before it is valid, its boot runs and isn't off, nobody has a hold or a live entry, and the
 -- client is none of the daemon's own.
 pub record IsQuiet (s : Scene) (past : List Event) : Type 0 where
-  pub campaign : Campaign
-  pub facts_are : campaign.facts ≡ s.facts
-  pub legal : IsLegalUnlimited campaign s.opening past
-  pub history : IsHistory s.opening
+  pub first : List Seen
+  pub plans : List BootPlan
+  pub legal : IsLegalUnlimited (campaign_on s.basis first plans) past
+  pub history : IsHistory s.basis.opening
   pub booted : 0 < boots past
   pub on : off past ≡ false
   pub no_hold : holds past ≡ []
@@ -91,7 +93,7 @@ pub data IsFollowed (s : Scene) : ℕ → List PlanStep → List Event → List 
 -- is below its limit.
 abbrev pub IsAcceptedNext : Scene → List PlanStep → PlanStep → List PlanStep → List Event → List Event → Type 0
 IsAcceptedNext s done step more past now =
-    (c : Campaign) (chosen : Chosen) → c.facts ≡ s.facts → IsLegal c s.opening now → IsQuiet s past
+    (first : List Seen) (plans : List BootPlan) (chosen : Chosen) → IsLegal (campaign_on s.basis first plans) now → IsQuiet s past
     → first_bad s 1 (done ++ step ∷ more) past ≡ None → IsFollowed s 1 done past past now
     → off now ≡ false → BelowLimit now → release_at s step.release ≡ Some chosen
-    → accepts step.release (verdict s.facts s.opening now s.client (request_of s (length done + 1) step chosen) Stage.Ask) ≡ true
+    → accepts step.release (verdict s.basis now s.client (request_of s (length done + 1) step chosen) Stage.Ask) ≡ true

@@ -15,7 +15,6 @@ use Rattle.fw_facts.specs.Views.{version_of}
 use Rattle.release_catalogue.specs.declared.reference.ReleaseRef.{ReleaseRef}
 use Rattle.release_catalogue.specs.Lookup.{Chosen, all_releases}
 use Rattle.device_list.specs.declared.selector.Selector.{Selector}
-use Rattle.history_keeper.specs.declared.row.Row.{Row}
 use Rattle.history_keeper.specs.declared.row.RowState.{RowState}
 use Rattle.update_log.specs.declared.answer.AskAnswer.{AskAnswer}
 use Rattle.update_log.specs.declared.answer.ClaimAnswer.{ClaimAnswer}
@@ -24,12 +23,11 @@ use Rattle.update_log.specs.declared.decision.Stage.{Stage}
 use Rattle.update_log.specs.declared.event.Event.{Event}
 use Rattle.update_log.specs.declared.event.Op.{Op}
 use Rattle.update_log.specs.declared.event.Stored.{Stored}
-use Rattle.update_log.specs.declared.facts.Facts.{Facts}
 use Rattle.update_log.specs.declared.refusal.FetchNote.{FetchNote}
 use Rattle.update_log.specs.declared.request.InstallFlags.{InstallFlags}
 use Rattle.update_log.specs.declared.request.Request.{Request}
 use Rattle.update_log.specs.Holding.{blocks_of}
-use Rattle.update_log.specs.Known.{rows, views}
+use Rattle.update_log.specs.Known.{Basis, views}
 use Rattle.update_log.specs.Legal.{next_entry}
 use Rattle.update_log.specs.Shows.{marks}
 use Rattle.update_log.specs.Steps.{all_ops, closing, is_op, next_op}
@@ -40,19 +38,18 @@ use Rattle.update_plans.specs.Walks.{walk}
 
 -- Over which facts and rows a plan is made, for which client, and the tag that its requests begin with.
 pub record Scene : Type 0 where
-  pub facts : Facts
-  pub opening : List Row
+  pub basis : Basis
   pub client : ℕ
   pub tag : List ℕ
 
-abbrev pub scene : Facts → List Row → ℕ → List ℕ → Scene
-scene facts opening client tag = record { facts = facts; opening = opening; client = client; tag = tag }
+abbrev pub scene : Basis → ℕ → List ℕ → Scene
+scene basis client tag = record { basis = basis; client = client; tag = tag }
 
 -- ---- what a step asks for
 
 -- The release at a place of the catalogue.
 abbrev pub release_at : Scene → ReleaseRef → Option Chosen
-release_at s at = find (λ chosen. is_release chosen.at at) (all_releases s.facts.catalogue)
+release_at s at = find (λ chosen. is_release chosen.at at) (all_releases s.basis.facts.catalogue)
 
 -- The tag of a step, which counts from 1.
 abbrev pub step_tag : Scene → ℕ → List ℕ
@@ -74,7 +71,7 @@ has_id device view = bytes_eq view.sheet.device device
 
 -- The device as it stands after a past.
 abbrev pub view_of : Scene → List ℕ → List Event → Option DeviceView
-view_of s device past = find (has_id device) (views s.facts s.opening past)
+view_of s device past = find (has_id device) (views s.basis past)
 
 abbrev pub seen_of : Scene → List ℕ → List Event → Seen
 seen_of s device past = option_map_or (λ view. view.seen) (view_of s device past) Seen.Gone
@@ -111,7 +108,7 @@ abbrev pub taken : Scene → ℕ → PlanStep → Chosen → List Event → List
 taken s number step chosen past =
     Event.Claim s.client (request_of s number step chosen)
     (FetchNote.Whole chosen.release.digest chosen.release.size step.raw)
-    (ClaimAnswer.Entry (next_entry s.facts s.opening past))
+    (ClaimAnswer.Entry (next_entry s.basis past))
     ∷ past
 
 -- A step of an entry, where it is the next one: it begins, and ends well with all its marks.
@@ -121,7 +118,7 @@ is_next (Some next) op = is_op next op
 
 abbrev pub with_op : Scene → PlanStep → Chosen → ℕ → List Event → Op → List Event
 with_op s step chosen entry past op =
-    if is_next (next_op s.facts s.opening past entry) op
+    if is_next (next_op s.basis past entry) op
     then Event.End s.client entry op (Ok tt) (marks op entry chosen.release.digest)
     (shown_after op (waits_for_boot s step.device past) step.raw (seen_of s step.device past))
     ∷ Event.Start s.client entry op ∷ past
@@ -130,7 +127,7 @@ with_op s step chosen entry past op =
 -- The log behind the claim with some of the steps, in their order.
 abbrev pub with_some : Scene → ℕ → PlanStep → Chosen → List Op → List Event → List Event
 with_some s number step chosen ops past =
-    fold (with_op s step chosen (next_entry s.facts s.opening past)) (taken s number step chosen (asked s number step chosen past)) ops
+    fold (with_op s step chosen (next_entry s.basis past)) (taken s number step chosen (asked s number step chosen past)) ops
 
 -- All steps of the entry, in their order.
 abbrev pub with_ops : Scene → PlanStep → Chosen → ℕ → List Event → List Event
@@ -138,17 +135,17 @@ with_ops s step chosen entry past = fold (with_op s step chosen entry) past all_
 
 -- The log before the finish.
 abbrev pub done : Scene → ℕ → PlanStep → Chosen → List Event → List Event
-done s number step chosen past = with_ops s step chosen (next_entry s.facts s.opening past) (taken s number step chosen (asked s number step chosen past))
+done s number step chosen past = with_ops s step chosen (next_entry s.basis past) (taken s number step chosen (asked s number step chosen past))
 
 -- In which state the entry ends.
 abbrev pub end_of : Scene → ℕ → PlanStep → Chosen → List Event → RowState
 end_of s number step chosen past =
-    unwrap_or (closing s.facts s.opening (done s number step chosen past) (next_entry s.facts s.opening past)) RowState.Begun
+    unwrap_or (closing s.basis (done s number step chosen past) (next_entry s.basis past)) RowState.Begun
 
 -- The whole install.
 abbrev pub installed_with : Scene → ℕ → PlanStep → Chosen → List Event → List Event
 installed_with s number step chosen past =
-    Event.Finish s.client (next_entry s.facts s.opening past) (end_of s number step chosen past) Stored.Yes ∷ done s number step chosen past
+    Event.Finish s.client (next_entry s.basis past) (end_of s number step chosen past) Stored.Yes ∷ done s number step chosen past
 
 unfoldable pub installed : Scene → ℕ → PlanStep → List Event → List Event
 installed s number step past = option_map_or (λ chosen. installed_with s number step chosen past) (release_at s step.release) past
@@ -183,9 +180,9 @@ is_ended RowState.Pending = false
 abbrev pub is_good_with : Scene → ℕ → PlanStep → List Event → Chosen → Bool
 is_good_with s number step past chosen =
     writes s step chosen past
-    && accepts step.release (verdict s.facts s.opening past s.client (request_of s number step chosen) Stage.Ask)
+    && accepts step.release (verdict s.basis past s.client (request_of s number step chosen) Stage.Ask)
     && accepts step.release
-    (verdict s.facts s.opening (asked s number step chosen past) s.client (request_of s number step chosen) (Stage.Claim step.release))
+    (verdict s.basis (asked s number step chosen past) s.client (request_of s number step chosen) (Stage.Claim step.release))
     && is_ended (end_of s number step chosen past)
 
 unfoldable pub is_good : Scene → ℕ → PlanStep → List Event → Bool
@@ -224,7 +221,7 @@ highest all =
 unfoldable pub next_step : Scene → ℕ → List ℕ → List Event → Option PlanStep
 next_step s number device past =
     option_and_then
-    (λ view. option_and_then (step_of view) (highest (filter (may_come s number view past) (all_releases s.facts.catalogue))))
+    (λ view. option_and_then (step_of view) (highest (filter (may_come s number view past) (all_releases s.basis.facts.catalogue))))
     (view_of s device past)
 
 -- All steps of a device, one after the other as long as there is one, but no more than so many.
@@ -254,4 +251,4 @@ steps_max = 8192
 
 -- The plan after a past.
 unfoldable pub plan : Scene → List Event → List PlanStep
-plan s past = chains s (visited (views s.facts s.opening past)) steps_max 1 past
+plan s past = chains s (visited (views s.basis past)) steps_max 1 past

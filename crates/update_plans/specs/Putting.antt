@@ -12,7 +12,7 @@ use Rattle.release_catalogue.specs.Lookup.{Chosen}
 use Rattle.update_log.specs.declared.event.Event.{Event}
 use Rattle.update_log.specs.declared.event.Op.{Op}
 use Rattle.update_log.specs.declared.trace.Trace.{Trace}
-use Rattle.update_log.specs.Core.{Core, Stands}
+use Rattle.core_state.specs.Core.{Core, Stands}
 use Rattle.update_log.specs.Known.{row_of}
 use Rattle.update_log.specs.Legal.{next_entry}
 use Rattle.update_log.specs.Pasts.{past_of}
@@ -32,11 +32,11 @@ pub record Making : Type 0 where
 -- The state stands for the past before the install of a good step, whose release that is, and which gets that entry.
 pub record Begins (s : Scene) (step : PlanStep) (at : Making) (release : Release) (entry : ℕ) (core : Core) : Type 0 where
   pub before_is : past_of core.log ≡ at.before
-  pub stands : Stands s.facts s.opening core
+  pub stands : Stands s.basis core
   pub quiet : IsQuiet s at.before
   pub good : is_good s at.number step at.before ≡ true
   pub release_is : option_map (λ chosen. chosen.release) (release_at s step.release) ≡ Some release
-  pub entry_is : entry ≡ next_entry s.facts s.opening at.before
+  pub entry_is : entry ≡ next_entry s.basis at.before
 
 -- The state stands for that past with the ask, the claim and some of the steps.
 pub record IsPutting (s : Scene) (step : PlanStep) (at : Making) (core : Core) : Type 0 where
@@ -44,7 +44,7 @@ pub record IsPutting (s : Scene) (step : PlanStep) (at : Making) (core : Core) :
   pub there : release_at s step.release ≡ Some chosen
   pub good : is_good_with s at.number step at.before chosen ≡ true
   pub quiet : IsQuiet s at.before
-  pub stands : Stands s.facts s.opening core
+  pub stands : Stands s.basis core
   pub past_is : past_of core.log ≡ with_some s at.number step chosen at.gone at.before
 
 -- The steps that come before a step.

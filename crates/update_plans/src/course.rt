@@ -10,7 +10,7 @@ ghost use Rattle.update_plans.specs.Courses.{course_of, course_step, course_with
 use crate::raw::is_same;
 use fw_facts::{Component, DeviceFlag, DeviceView, Mode, Seen};
 use guid_ids::Guid;
-use update_log::{Op, Trace, TraceStep, TraceSteps, next_op};
+use update_log::{Op, Trace, TraceStep, TraceSteps, is_home, next_op};
 use version_formats::{Format, Version, render};
 
 /// The trace of an entry, and what the port shows.
@@ -127,15 +127,6 @@ fn shows_version(format: Format, version: &Version, seen: Seen) -> bool
 {
     match seen {
         Seen::Home { raw, .. } => is_same(&render(format, raw), version),
-        Seen::Gone | Seen::Stranger => false,
-    }
-}
-
-fn is_home(seen: Seen) -> bool
-    ensures { result ≡ is_home seen }
-{
-    match seen {
-        Seen::Home { .. } => true,
         Seen::Gone | Seen::Stranger => false,
     }
 }

@@ -2,8 +2,9 @@
 ghost use Rattle.std.specs.Prelude.{◌≡◌, ◌≤◌, ◌<◌, ◌+◌, ◌-◌, ◌++◌, ◌∷◌, [], ◌⊎◌, true, ℕ, None, Some, List, IfOk, IfSome, OnOk, MatchResult, length, map, slice_get};
 ghost use Rattle.std.specs.List.{AllByRecursion};
 ghost use Rattle.history_keeper.specs.declared.row.Row.{Row};
-ghost use Rattle.update_log.specs.Core.{Stands};
+ghost use Rattle.core_state.specs.Core.{Stands};
 ghost use Rattle.update_log.specs.Pasts.{past_of};
+ghost use Rattle.update_log.specs.Known.{basis_of};
 ghost use Rattle.update_plans.specs.Following.{IsQuiet};
 ghost use Rattle.std.specs.Ordering.{is_gt};
 ghost use Rattle.version_formats.specs.VersionOrder.{version_cmp};
@@ -17,12 +18,13 @@ use crate::planner::Asker;
 use crate::raw_of;
 use crate::releases::version_at;
 use crate::walk::order;
+use core_state::CoreState;
 use fw_base::NoMemory;
 use fw_facts::{DeviceView, Mode, Seen};
 use release_catalogue::ReleaseRef;
 use std::alloc::Global;
 use std::cmp::Ordering;
-use update_log::{CoreState, Facts};
+use update_log::Facts;
 use version_formats::{Version, compare};
 
 /// Puts the steps of the plan over the log behind that log: for each device in the order of the walk, as
@@ -34,9 +36,9 @@ pub fn plan_all(
 ) -> Result<Vec<PlanStep>, NoMemory>
     ghost opening: { List Row }
     requires tag { IsTag asker.now.tag.now }
-    requires stands { Stands asker.now.facts.now opening state.old }
-    requires quiet { IsQuiet (scene asker.now.facts.now opening asker.now.client asker.now.tag.now) (past_of state.old.log) }
-    ensures { IfOk result (λ steps. steps.items ≡ plan (scene asker.now.facts.now opening asker.now.client asker.now.tag.now) (past_of state.old.log)) }
+    requires stands { Stands (basis_of asker.now.facts.now opening) state.old }
+    requires quiet { IsQuiet (scene (basis_of asker.now.facts.now opening) asker.now.client asker.now.tag.now) (past_of state.old.log) }
+    ensures { IfOk result (λ steps. steps.items ≡ plan (scene (basis_of asker.now.facts.now opening) asker.now.client asker.now.tag.now) (past_of state.old.log)) }
 {
     let places = order(alloc, state.views())?;
     plan_places(alloc, asker, state, &places)
@@ -52,9 +54,9 @@ fn plan_places(
     ghost opening: { List Row }
     requires tag { IsTag asker.now.tag.now }
     requires places { AllByRecursion (λ at. at < length state.old.views) places.now }
-    requires stands { Stands asker.now.facts.now opening state.old }
-    requires quiet { IsQuiet (scene asker.now.facts.now opening asker.now.client asker.now.tag.now) (past_of state.old.log) }
-    ensures { IfOk result (λ steps. steps.items ≡ chains (scene asker.now.facts.now opening asker.now.client asker.now.tag.now) (map (device_at state.old.views) places.now) 8192 1 (past_of state.old.log)) }
+    requires stands { Stands (basis_of asker.now.facts.now opening) state.old }
+    requires quiet { IsQuiet (scene (basis_of asker.now.facts.now opening) asker.now.client asker.now.tag.now) (past_of state.old.log) }
+    ensures { IfOk result (λ steps. steps.items ≡ chains (scene (basis_of asker.now.facts.now opening) asker.now.client asker.now.tag.now) (map (device_at state.old.views) places.now) 8192 1 (past_of state.old.log)) }
 {
     let mut steps = Vec::new(alloc);
     for at in places {
@@ -68,11 +70,11 @@ pub fn check_all(asker: &Asker, state: &mut CoreState, steps: &[PlanStep]) -> Re
     ghost opening: { List Row }
     requires tag { IsTag asker.now.tag.now }
     requires few_steps { length steps.now ≤ 8192 }
-    requires stands { Stands asker.now.facts.now opening state.old }
-    requires quiet { IsQuiet (scene asker.now.facts.now opening asker.now.client asker.now.tag.now) (past_of state.old.log) }
+    requires stands { Stands (basis_of asker.now.facts.now opening) state.old }
+    requires quiet { IsQuiet (scene (basis_of asker.now.facts.now opening) asker.now.client asker.now.tag.now) (past_of state.old.log) }
     ensures { MatchResult result
-        (λ _. first_bad (scene asker.now.facts.now opening asker.now.client asker.now.tag.now) 1 steps.now (past_of state.old.log) ≡ None)
-        (λ stop. (stop ≡ PlanStop.NoMemory) ⊎ ((number : ℕ) × (stop ≡ PlanStop.No number) × (first_bad (scene asker.now.facts.now opening asker.now.client asker.now.tag.now) 1 steps.now (past_of state.old.log) ≡ Some number))) }
+        (λ _. first_bad (scene (basis_of asker.now.facts.now opening) asker.now.client asker.now.tag.now) 1 steps.now (past_of state.old.log) ≡ None)
+        (λ stop. (stop ≡ PlanStop.NoMemory) ⊎ ((number : ℕ) × (stop ≡ PlanStop.No number) × (first_bad (scene (basis_of asker.now.facts.now opening) asker.now.client asker.now.tag.now) 1 steps.now (past_of state.old.log) ≡ Some number))) }
 {
     for index in 0..steps.len() {
         let step = step_at(steps, index);
@@ -104,13 +106,13 @@ fn plan_device(
     requires place { at < length state.old.views }
     requires tag { IsTag asker.now.tag.now }
     requires few_steps { length steps.old.items ≤ 8192 }
-    requires stands { Stands asker.now.facts.now opening state.old }
-    requires quiet { IsQuiet (scene asker.now.facts.now opening asker.now.client asker.now.tag.now) (past_of state.old.log) }
-    ensures steps { OnOk result (steps.new.items ≡ steps.old.items ++ chain (scene asker.now.facts.now opening asker.now.client asker.now.tag.now) (device_at state.old.views at) (8192 - length steps.old.items) (length steps.old.items + 1) (past_of state.old.log)) }
-    ensures past { OnOk result (past_of state.new.log ≡ after (scene asker.now.facts.now opening asker.now.client asker.now.tag.now) (length steps.old.items + 1) (chain (scene asker.now.facts.now opening asker.now.client asker.now.tag.now) (device_at state.old.views at) (8192 - length steps.old.items) (length steps.old.items + 1) (past_of state.old.log)) (past_of state.old.log)) }
+    requires stands { Stands (basis_of asker.now.facts.now opening) state.old }
+    requires quiet { IsQuiet (scene (basis_of asker.now.facts.now opening) asker.now.client asker.now.tag.now) (past_of state.old.log) }
+    ensures steps { OnOk result (steps.new.items ≡ steps.old.items ++ chain (scene (basis_of asker.now.facts.now opening) asker.now.client asker.now.tag.now) (device_at state.old.views at) (8192 - length steps.old.items) (length steps.old.items + 1) (past_of state.old.log)) }
+    ensures past { OnOk result (past_of state.new.log ≡ after (scene (basis_of asker.now.facts.now opening) asker.now.client asker.now.tag.now) (length steps.old.items + 1) (chain (scene (basis_of asker.now.facts.now opening) asker.now.client asker.now.tag.now) (device_at state.old.views at) (8192 - length steps.old.items) (length steps.old.items + 1) (past_of state.old.log)) (past_of state.old.log)) }
     ensures few_steps { OnOk result (length steps.new.items ≤ 8192) }
-    ensures stands { OnOk result (Stands asker.now.facts.now opening state.new) }
-    ensures quiet { OnOk result (IsQuiet (scene asker.now.facts.now opening asker.now.client asker.now.tag.now) (past_of state.new.log)) }
+    ensures stands { OnOk result (Stands (basis_of asker.now.facts.now opening) state.new) }
+    ensures quiet { OnOk result (IsQuiet (scene (basis_of asker.now.facts.now opening) asker.now.client asker.now.tag.now) (past_of state.new.log)) }
 {
     let mut releases = highest_first(alloc, asker.facts, device(state, at))?;
     for taken in steps.len()..STEPS_MAX {
@@ -140,12 +142,12 @@ fn take_step(
     requires place { at < length state.old.views }
     requires tag { IsTag asker.now.tag.now }
     requires number { number ≤ 8192 }
-    requires stands { Stands asker.now.facts.now opening state.old }
-    requires quiet { IsQuiet (scene asker.now.facts.now opening asker.now.client asker.now.tag.now) (past_of state.old.log) }
-    requires good { is_good (scene asker.now.facts.now opening asker.now.client asker.now.tag.now) number step (past_of state.old.log) ≡ true }
+    requires stands { Stands (basis_of asker.now.facts.now opening) state.old }
+    requires quiet { IsQuiet (scene (basis_of asker.now.facts.now opening) asker.now.client asker.now.tag.now) (past_of state.old.log) }
+    requires good { is_good (scene (basis_of asker.now.facts.now opening) asker.now.client asker.now.tag.now) number step (past_of state.old.log) ≡ true }
     requires releases { IfSome (slice_get state.old.views at) (λ view. IsHighestFirst asker.now.facts.now (guids_of view) releases.items) }
-    ensures past { OnOk result (past_of state.new.log ≡ installed (scene asker.now.facts.now opening asker.now.client asker.now.tag.now) number step (past_of state.old.log)) }
-    ensures stands { OnOk result (Stands asker.now.facts.now opening state.new) }
+    ensures past { OnOk result (past_of state.new.log ≡ installed (scene (basis_of asker.now.facts.now opening) asker.now.client asker.now.tag.now) number step (past_of state.old.log)) }
+    ensures stands { OnOk result (Stands (basis_of asker.now.facts.now opening) state.new) }
     ensures steps { OnOk result (steps.new.items ≡ steps.old.items ++ step ∷ []) }
     ensures releases { IfOk result (λ places. IfSome (slice_get state.new.views at) (λ view. IsHighestFirst asker.now.facts.now (guids_of view) places.items)) }
 {
@@ -228,9 +230,9 @@ fn next_step(
     requires tag { IsTag asker.now.tag.now }
     requires number { number ≤ 8192 }
     requires releases { IfSome (slice_get state.now.views at) (λ view. IsHighestFirst asker.now.facts.now (guids_of view) releases.now) }
-    ensures { (opening : List Row) → Stands asker.now.facts.now opening state.now
-        → IsQuiet (scene asker.now.facts.now opening asker.now.client asker.now.tag.now) (past_of state.now.log)
-        → result ≡ next_step (scene asker.now.facts.now opening asker.now.client asker.now.tag.now) number (device_at state.now.views at) (past_of state.now.log) }
+    ensures { (opening : List Row) → Stands (basis_of asker.now.facts.now opening) state.now
+        → IsQuiet (scene (basis_of asker.now.facts.now opening) asker.now.client asker.now.tag.now) (past_of state.now.log)
+        → result ≡ next_step (scene (basis_of asker.now.facts.now opening) asker.now.client asker.now.tag.now) number (device_at state.now.views at) (past_of state.now.log) }
 {
     let view = device(state, at);
     let shown = view.version()?;
@@ -248,9 +250,9 @@ fn first_good(
 ) -> Option<PlanStep>
     requires tag { IsTag asker.now.tag.now }
     requires number { number ≤ 8192 }
-    ensures { (opening : List Row) → Stands asker.now.facts.now opening state.now
-        → IsQuiet (scene asker.now.facts.now opening asker.now.client asker.now.tag.now) (past_of state.now.log)
-        → result ≡ tried (scene asker.now.facts.now opening asker.now.client asker.now.tag.now) number view.now shown.now (past_of state.now.log) releases.now }
+    ensures { (opening : List Row) → Stands (basis_of asker.now.facts.now opening) state.now
+        → IsQuiet (scene (basis_of asker.now.facts.now opening) asker.now.client asker.now.tag.now) (past_of state.now.log)
+        → result ≡ tried (scene (basis_of asker.now.facts.now opening) asker.now.client asker.now.tag.now) number view.now shown.now (past_of state.now.log) releases.now }
 {
     for index in 0..releases.len() {
         let release = release_at(releases, index);
@@ -283,9 +285,9 @@ fn good_step(
 ) -> Option<PlanStep>
     requires tag { IsTag asker.now.tag.now }
     requires number { number ≤ 8192 }
-    ensures { (opening : List Row) → Stands asker.now.facts.now opening state.now
-        → IsQuiet (scene asker.now.facts.now opening asker.now.client asker.now.tag.now) (past_of state.now.log)
-        → result ≡ good_step (scene asker.now.facts.now opening asker.now.client asker.now.tag.now) number view.now release version.now (past_of state.now.log) }
+    ensures { (opening : List Row) → Stands (basis_of asker.now.facts.now opening) state.now
+        → IsQuiet (scene (basis_of asker.now.facts.now opening) asker.now.client asker.now.tag.now) (past_of state.now.log)
+        → result ≡ good_step (scene (basis_of asker.now.facts.now opening) asker.now.client asker.now.tag.now) number view.now release version.now (past_of state.now.log) }
 {
     let step = PlanStep {
         device: view.sheet.device,

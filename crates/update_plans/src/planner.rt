@@ -2,8 +2,8 @@
 ghost use Rattle.std.specs.Prelude.{◌≡◌, ◌<◌, ◌≤◌, ◌+◌, ◌∷◌, ◌++◌, [], ◌&&◌, true, nat_lt, length, List, Some, find, slice_get, option_copied, option_map, OnOk, IsSome, Ok};
 ghost use Rattle.history_keeper.specs.declared.row.Row.{Row};
 ghost use Rattle.release_catalogue.specs.Lookup.{Chosen};
-ghost use Rattle.update_log.specs.Core.{Stands};
-ghost use Rattle.update_log.specs.Known.{rows};
+ghost use Rattle.core_state.specs.Core.{Stands};
+ghost use Rattle.update_log.specs.Known.{Basis, basis_of, rows};
 ghost use Rattle.update_log.specs.Holding.{blocks_of, live_entry};
 ghost use Rattle.update_log.specs.Pasts.{past_of};
 ghost use Rattle.update_log.specs.Shows.{marks};
@@ -13,7 +13,6 @@ ghost use Rattle.update_log.specs.declared.trace.Trace.{Trace};
 ghost use Rattle.update_log.specs.Verdicts.{verdict};
 ghost use Rattle.update_log.specs.declared.decision.Stage.TheVariants.{Ask};
 ghost use Rattle.update_plans.specs.Following.{IsQuiet};
-ghost use Rattle.update_log.specs.declared.facts.Facts.{Facts as TheFacts};
 ghost use Rattle.update_plans.specs.Plans.{accepts, has_id, installed, is_good, release_at, request_of, scene};
 ghost use Rattle.update_plans.specs.Putting.{Begins, IsPutting, Making, end_on, ops_before, shown_on};
 ghost use Rattle.update_plans.specs.Tags.{IsTag};
@@ -23,6 +22,7 @@ use crate::plan::PlanStep;
 use crate::raw::is_same;
 use crate::releases::{component_of, release_at, release_of};
 use crate::requests::request_of;
+use core_state::{CoreState, step as append, verdict};
 use device_list::Selector;
 use emulated_boards::Mark;
 use fw_base::{Digest, Name, NoMemory};
@@ -31,8 +31,8 @@ use guid_ids::DeviceId;
 use history_keeper::RowState;
 use release_catalogue::ReleaseRef;
 use update_log::{
-    AskAnswer, ClaimAnswer, CoreState, Decision, Event, Facts, FetchNote, Op, Request, Stage,
-    Stored, Told, closing, next_op, step as append, verdict,
+    AskAnswer, ClaimAnswer, Decision, Event, Facts, FetchNote, Op, Request, Stage, Stored, Told,
+    closing, next_op,
 };
 use version_formats::render;
 
@@ -55,9 +55,9 @@ impl<'a> Asker<'a> {
     pub fn is_good(&self, state: &CoreState, number: u32, step: &PlanStep) -> bool
         requires tag { IsTag self.now.tag.now }
         requires number { number ≤ 8192 }
-        ensures { (opening : List Row) → Stands self.now.facts.now opening state.now
-            → IsQuiet (scene self.now.facts.now opening self.now.client self.now.tag.now) (past_of state.now.log)
-            → result ≡ is_good (scene self.now.facts.now opening self.now.client self.now.tag.now) number step.now (past_of state.now.log) }
+        ensures { (opening : List Row) → Stands (basis_of self.now.facts.now opening) state.now
+            → IsQuiet (scene (basis_of self.now.facts.now opening) self.now.client self.now.tag.now) (past_of state.now.log)
+            → result ≡ is_good (scene (basis_of self.now.facts.now opening) self.now.client self.now.tag.now) number step.now (past_of state.now.log) }
     {
         match component_of(self.facts, step.release) {
             Some(component) => self.is_good_of(state, number, step, component),
@@ -75,9 +75,9 @@ impl<'a> Asker<'a> {
         requires tag { IsTag self.now.tag.now }
         requires number { number ≤ 8192 }
         requires component { slice_get self.now.facts.now.catalogue step.now.release.component ≡ Some component.now }
-        ensures { (opening : List Row) → Stands self.now.facts.now opening state.now
-            → IsQuiet (scene self.now.facts.now opening self.now.client self.now.tag.now) (past_of state.now.log)
-            → result ≡ is_good (scene self.now.facts.now opening self.now.client self.now.tag.now) number step.now (past_of state.now.log) }
+        ensures { (opening : List Row) → Stands (basis_of self.now.facts.now opening) state.now
+            → IsQuiet (scene (basis_of self.now.facts.now opening) self.now.client self.now.tag.now) (past_of state.now.log)
+            → result ≡ is_good (scene (basis_of self.now.facts.now opening) self.now.client self.now.tag.now) number step.now (past_of state.now.log) }
     {
         match release_of(component, step.release) {
             Some(release) => self.is_good_with(state, number, step, component, release),
@@ -97,9 +97,9 @@ impl<'a> Asker<'a> {
         requires number { number ≤ 8192 }
         requires component { slice_get self.now.facts.now.catalogue step.now.release.component ≡ Some component.now }
         requires release { slice_get component.now.releases step.now.release.release ≡ Some release.now }
-        ensures { (opening : List Row) → Stands self.now.facts.now opening state.now
-            → IsQuiet (scene self.now.facts.now opening self.now.client self.now.tag.now) (past_of state.now.log)
-            → result ≡ is_good (scene self.now.facts.now opening self.now.client self.now.tag.now) number step.now (past_of state.now.log) }
+        ensures { (opening : List Row) → Stands (basis_of self.now.facts.now opening) state.now
+            → IsQuiet (scene (basis_of self.now.facts.now opening) self.now.client self.now.tag.now) (past_of state.now.log)
+            → result ≡ is_good (scene (basis_of self.now.facts.now opening) self.now.client self.now.tag.now) number step.now (past_of state.now.log) }
     {
         match view_of(state, &step.device) {
             Some(view) => self.goes_well(state, number, step, component, release, view),
@@ -122,9 +122,9 @@ impl<'a> Asker<'a> {
         requires component { slice_get self.now.facts.now.catalogue step.now.release.component ≡ Some component.now }
         requires release { slice_get component.now.releases step.now.release.release ≡ Some release.now }
         requires view { find (has_id step.now.device) state.now.views ≡ Some view.now }
-        ensures { (opening : List Row) → Stands self.now.facts.now opening state.now
-            → IsQuiet (scene self.now.facts.now opening self.now.client self.now.tag.now) (past_of state.now.log)
-            → result ≡ is_good (scene self.now.facts.now opening self.now.client self.now.tag.now) number step.now (past_of state.now.log) }
+        ensures { (opening : List Row) → Stands (basis_of self.now.facts.now opening) state.now
+            → IsQuiet (scene (basis_of self.now.facts.now opening) self.now.client self.now.tag.now) (past_of state.now.log)
+            → result ≡ is_good (scene (basis_of self.now.facts.now opening) self.now.client self.now.tag.now) number step.now (past_of state.now.log) }
     {
         if !is_same(&render(view.sheet.format, step.raw), &release.version) {
             return false;
@@ -146,9 +146,9 @@ impl<'a> Asker<'a> {
     ) -> bool
         requires tag { IsTag self.now.tag.now }
         requires number { number ≤ 8192 }
-        ensures { (opening : List Row) (chosen : Chosen) → Stands self.now.facts.now opening state.now → chosen.release ≡ release.now
-            → result ≡ (accepts step.now.release (verdict self.now.facts.now opening (past_of state.now.log) self.now.client (request_of (scene self.now.facts.now opening self.now.client self.now.tag.now) number step.now chosen) Ask)
-            && nat_lt (length (rows self.now.facts.now opening (past_of state.now.log))) 65536) }
+        ensures { (opening : List Row) (chosen : Chosen) → Stands (basis_of self.now.facts.now opening) state.now → chosen.release ≡ release.now
+            → result ≡ (accepts step.now.release (verdict (basis_of self.now.facts.now opening) (past_of state.now.log) self.now.client (request_of (scene (basis_of self.now.facts.now opening) self.now.client self.now.tag.now) number step.now chosen) Ask)
+            && nat_lt (length (rows (basis_of self.now.facts.now opening) (past_of state.now.log))) 65536) }
     {
         let request = self.request(number, step, release);
         let decision = verdict(self.facts, state, self.client, &request, Stage::Ask);
@@ -159,7 +159,7 @@ impl<'a> Asker<'a> {
         requires tag { IsTag self.now.tag.now }
         requires number { number ≤ 8192 }
         ensures { (opening : List Row) (chosen : Chosen) → chosen.release ≡ release.now
-            → result ≡ request_of (scene self.now.facts.now opening self.now.client self.now.tag.now) number step.now chosen }
+            → result ≡ request_of (scene (basis_of self.now.facts.now opening) self.now.client self.now.tag.now) number step.now chosen }
     {
         request_of(self.tag, number, step, release.version)
     }
@@ -176,11 +176,11 @@ impl<'a> Asker<'a> {
         requires number { number ≤ 8192 }
         requires numbered { number ≡ at.number }
         requires before { past_of state.old.log ≡ at.before }
-        requires stands { Stands self.now.facts.now at.opening state.old }
-        requires quiet { IsQuiet (scene self.now.facts.now at.opening self.now.client self.now.tag.now) at.before }
-        requires good { is_good (scene self.now.facts.now at.opening self.now.client self.now.tag.now) at.number step.now at.before ≡ true }
-        ensures past { OnOk result (past_of state.new.log ≡ installed (scene self.now.facts.now at.opening self.now.client self.now.tag.now) at.number step.now at.before) }
-        ensures stands { OnOk result (Stands self.now.facts.now at.opening state.new) }
+        requires stands { Stands (basis_of self.now.facts.now at.opening) state.old }
+        requires quiet { IsQuiet (scene (basis_of self.now.facts.now at.opening) self.now.client self.now.tag.now) at.before }
+        requires good { is_good (scene (basis_of self.now.facts.now at.opening) self.now.client self.now.tag.now) at.number step.now at.before ≡ true }
+        ensures past { OnOk result (past_of state.new.log ≡ installed (scene (basis_of self.now.facts.now at.opening) self.now.client self.now.tag.now) at.number step.now at.before) }
+        ensures stands { OnOk result (Stands (basis_of self.now.facts.now at.opening) state.new) }
     {
         match release_at(self.facts, step.release) {
             Some(release) => self.put(state, number, step, release),
@@ -201,12 +201,12 @@ impl<'a> Asker<'a> {
         requires number { number ≤ 8192 }
         requires numbered { number ≡ at.number }
         requires before { past_of state.old.log ≡ at.before }
-        requires stands { Stands self.now.facts.now at.opening state.old }
-        requires quiet { IsQuiet (scene self.now.facts.now at.opening self.now.client self.now.tag.now) at.before }
-        requires good { is_good (scene self.now.facts.now at.opening self.now.client self.now.tag.now) at.number step.now at.before ≡ true }
-        requires release { option_map (λ chosen. chosen.release) (release_at (scene self.now.facts.now at.opening self.now.client self.now.tag.now) step.now.release) ≡ Some release.now }
-        ensures past { OnOk result (past_of state.new.log ≡ installed (scene self.now.facts.now at.opening self.now.client self.now.tag.now) at.number step.now at.before) }
-        ensures stands { OnOk result (Stands self.now.facts.now at.opening state.new) }
+        requires stands { Stands (basis_of self.now.facts.now at.opening) state.old }
+        requires quiet { IsQuiet (scene (basis_of self.now.facts.now at.opening) self.now.client self.now.tag.now) at.before }
+        requires good { is_good (scene (basis_of self.now.facts.now at.opening) self.now.client self.now.tag.now) at.number step.now at.before ≡ true }
+        requires release { option_map (λ chosen. chosen.release) (release_at (scene (basis_of self.now.facts.now at.opening) self.now.client self.now.tag.now) step.now.release) ≡ Some release.now }
+        ensures past { OnOk result (past_of state.new.log ≡ installed (scene (basis_of self.now.facts.now at.opening) self.now.client self.now.tag.now) at.number step.now at.before) }
+        ensures stands { OnOk result (Stands (basis_of self.now.facts.now at.opening) state.new) }
     {
         state.reserve(EVENTS_MAX)?;
         let entry = state.rows().len() as u32 + 1;
@@ -227,11 +227,11 @@ impl<'a> Asker<'a> {
         entry: u32,
     )
         ghost at: { Making }
-        requires request { (chosen : Chosen) → chosen.release ≡ release.now → request.now ≡ request_of (scene self.now.facts.now at.opening self.now.client self.now.tag.now) at.number step.now chosen }
-        requires begins { Begins (scene self.now.facts.now at.opening self.now.client self.now.tag.now) step.now at release.now entry state.old }
+        requires request { (chosen : Chosen) → chosen.release ≡ release.now → request.now ≡ request_of (scene (basis_of self.now.facts.now at.opening) self.now.client self.now.tag.now) at.number step.now chosen }
+        requires begins { Begins (scene (basis_of self.now.facts.now at.opening) self.now.client self.now.tag.now) step.now at release.now entry state.old }
         requires room { 2 ≤ state.old.room }
         requires row { 1 ≤ state.old.row_room }
-        ensures put { IsPutting (scene self.now.facts.now at.opening self.now.client self.now.tag.now) step.now (record at { gone = [] }) state.new }
+        ensures put { IsPutting (scene (basis_of self.now.facts.now at.opening) self.now.client self.now.tag.now) step.now (record at { gone = [] }) state.new }
         ensures room { state.old.room ≤ state.new.room + 2 }
     {
         append(
@@ -266,11 +266,11 @@ impl<'a> Asker<'a> {
     // All steps of the entry.
     fn make_all(&self, state: &mut CoreState, step: &PlanStep, entry: u32, digest: Digest)
         ghost at: { Making }
-        requires put { IsPutting (scene self.now.facts.now at.opening self.now.client self.now.tag.now) step.now (record at { gone = [] }) state.old }
-        requires digest { option_map (λ chosen. chosen.release.digest) (release_at (scene self.now.facts.now at.opening self.now.client self.now.tag.now) step.now.release) ≡ Some digest }
-        requires entry { entry ≡ next_entry self.now.facts.now at.opening at.before }
+        requires put { IsPutting (scene (basis_of self.now.facts.now at.opening) self.now.client self.now.tag.now) step.now (record at { gone = [] }) state.old }
+        requires digest { option_map (λ chosen. chosen.release.digest) (release_at (scene (basis_of self.now.facts.now at.opening) self.now.client self.now.tag.now) step.now.release) ≡ Some digest }
+        requires entry { entry ≡ next_entry (basis_of self.now.facts.now at.opening) at.before }
         requires room { 12 ≤ state.old.room }
-        ensures put { IsPutting (scene self.now.facts.now at.opening self.now.client self.now.tag.now) step.now (record at { gone = all_ops }) state.new }
+        ensures put { IsPutting (scene (basis_of self.now.facts.now at.opening) self.now.client self.now.tag.now) step.now (record at { gone = all_ops }) state.new }
         ensures room { state.old.room ≤ state.new.room + 12 }
     {
         self.make(state, Op::Prepare, step, entry, digest);
@@ -284,12 +284,12 @@ impl<'a> Asker<'a> {
     // A step of the entry, behind those that come before it, where it is the next one.
     fn make(&self, state: &mut CoreState, op: Op, step: &PlanStep, entry: u32, digest: Digest)
         ghost at: { Making }
-        requires put { IsPutting (scene self.now.facts.now at.opening self.now.client self.now.tag.now) step.now at state.old }
+        requires put { IsPutting (scene (basis_of self.now.facts.now at.opening) self.now.client self.now.tag.now) step.now at state.old }
         requires gone { at.gone ≡ ops_before op }
-        requires digest { option_map (λ chosen. chosen.release.digest) (release_at (scene self.now.facts.now at.opening self.now.client self.now.tag.now) step.now.release) ≡ Some digest }
-        requires entry { entry ≡ next_entry self.now.facts.now at.opening at.before }
+        requires digest { option_map (λ chosen. chosen.release.digest) (release_at (scene (basis_of self.now.facts.now at.opening) self.now.client self.now.tag.now) step.now.release) ≡ Some digest }
+        requires entry { entry ≡ next_entry (basis_of self.now.facts.now at.opening) at.before }
         requires room { 2 ≤ state.old.room }
-        ensures put { IsPutting (scene self.now.facts.now at.opening self.now.client self.now.tag.now) step.now (record at { gone = at.gone ++ op ∷ [] }) state.new }
+        ensures put { IsPutting (scene (basis_of self.now.facts.now at.opening) self.now.client self.now.tag.now) step.now (record at { gone = at.gone ++ op ∷ [] }) state.new }
         ensures room { state.old.room ≤ state.new.room + 2 }
     {
         if !is_next(next_op(&state.trace(entry)), op) {
@@ -315,11 +315,11 @@ impl<'a> Asker<'a> {
 
     fn finish(&self, state: &mut CoreState, step: &PlanStep, entry: u32)
         ghost at: { Making }
-        requires put { IsPutting (scene self.now.facts.now at.opening self.now.client self.now.tag.now) step.now (record at { gone = all_ops }) state.old }
-        requires entry { entry ≡ next_entry self.now.facts.now at.opening at.before }
+        requires put { IsPutting (scene (basis_of self.now.facts.now at.opening) self.now.client self.now.tag.now) step.now (record at { gone = all_ops }) state.old }
+        requires entry { entry ≡ next_entry (basis_of self.now.facts.now at.opening) at.before }
         requires room { 1 ≤ state.old.room }
-        ensures past { past_of state.new.log ≡ installed (scene self.now.facts.now at.opening self.now.client self.now.tag.now) at.number step.now at.before }
-        ensures stands { Stands self.now.facts.now at.opening state.new }
+        ensures past { past_of state.new.log ≡ installed (scene (basis_of self.now.facts.now at.opening) self.now.client self.now.tag.now) at.number step.now at.before }
+        ensures stands { Stands (basis_of self.now.facts.now at.opening) state.new }
     {
         let ended = end_of(state, &step.device, entry);
         append(
@@ -367,8 +367,8 @@ fn shown(state: &CoreState, op: Op, step: &PlanStep) -> Seen
 // In which state the entry ends.
 fn end_of(state: &CoreState, device: &DeviceId, entry: u32) -> RowState
     requires { IsSome (live_entry (past_of state.now.log) entry) }
-    ensures { (facts : TheFacts) (opening : List Row) (t : Trace) → Stands facts opening state.now
-        → trace facts opening entry (past_of state.now.log) ≡ Some t
+    ensures { (basis : Basis) (t : Trace) → Stands basis state.now
+        → trace basis entry (past_of state.now.log) ≡ Some t
         → result ≡ end_on state.now.rows state.now.views device.now entry t }
 {
     match (state.row(entry), view_of(state, device)) {

@@ -14,13 +14,14 @@ use std::alloc::Global;
 use update_log::{BoardSeen, BootPlan, Found};
 
 impl<K: Keeper> House<K> {
+    ghost use Rattle.history_keeper.specs.Signs.{signs_of};
     ghost use Rattle.daemon_core.specs.HouseLog.{roomier};
     ghost use Rattle.daemon_core.specs.Booting.{BoardsStarted};
     ghost use Rattle.daemon_core.specs.Boots.{BootTurned, IsReady};
     ghost use Rattle.daemon_core.specs.House.{SameElsewhere};
     ghost use Rattle.daemon_core.specs.Housed.{past};
     ghost use Rattle.daemon_core.specs.Reading.{CanBootAfter, FirstRead, IsUngiven, LaterRead, WasRead};
-    ghost use Rattle.daemon_core.specs.Turns.{KeeperFared, signs_of};
+    ghost use Rattle.daemon_core.specs.Turns.{KeeperFared};
 
     /// Starts the machine by that plan: loads the keeper's rows, reopening it first where an earlier boot
     /// went well, starts each board, and puts the boot behind the log. No client has a hold or a live entry,
@@ -35,9 +36,9 @@ impl<K: Keeper> House<K> {
         requires live { live (past self.old) ≡ [] }
         requires few { boots (past self.old) + 1 < 2 ^ 32 }
         requires timely { plan.now.time ≤ 2 ^ 63 - 1 }
-        ensures turn { BootTurned K.tells K.doubt K.settled plan.now result self.old self.new }
+        ensures turn { BootTurned (signs_of K.tells K.doubt K.faults) K.settled plan.now result self.old self.new }
         ensures ungiven { IsUngiven K.settled self.old.keeper self.new.keeper }
-        ensures fared { KeeperFared (signs_of K.tells K.faults) self.old self.new }
+        ensures fared { KeeperFared (signs_of K.tells K.doubt K.faults) self.old self.new }
         ensures counts { K.faults self.old.keeper ≤ K.faults self.new.keeper }
     {
         let Ok(listed) = self.make_room(alloc) else {
@@ -77,9 +78,9 @@ impl<K: Keeper> House<K> {
     // Reads the history.
     fn read(&mut self, alloc: Global) -> Result<Loaded, NoMemory>
         requires { 1 ≤ self.old.house_log.core.row_room }
-        ensures ready { CanBootAfter K.tells K.doubt result self.new }
-        ensures first { self.old.house_log.loaded ≡ false → FirstRead K.tells K.doubt K.faults result self.old.house_log self.new.house_log self.old.keeper self.new.keeper }
-        ensures later { self.old.house_log.loaded ≡ true → (self.new.house_log ≡ record self.old.house_log { reopened = true }) × LaterRead K.tells K.doubt K.faults K.settled result self.old.house_log.core.rows self.old.house_log.core.doubt self.old.keeper self.new.keeper }
+        ensures ready { CanBootAfter (signs_of K.tells K.doubt K.faults) result self.new }
+        ensures first { self.old.house_log.loaded ≡ false → FirstRead (signs_of K.tells K.doubt K.faults) result self.old.house_log self.new.house_log self.old.keeper self.new.keeper }
+        ensures later { self.old.house_log.loaded ≡ true → (self.new.house_log ≡ record self.old.house_log { reopened = true }) × LaterRead (signs_of K.tells K.doubt K.faults) K.settled result self.old.house_log.core.rows self.old.house_log.core.doubt self.old.keeper self.new.keeper }
         ensures was_read { WasRead K.tells K.settled self.old.keeper self.new.keeper }
         ensures places { self.new.places ≡ self.old.places }
         ensures pool { self.new.pool ≡ self.old.pool }
@@ -91,7 +92,7 @@ impl<K: Keeper> House<K> {
 
     // Starts the boards, and puts the boot behind the log.
     fn start_boards(&mut self, plan: &BootPlan, found: Found, listed: Vec<BoardSeen>)
-        requires { IsReady K.tells K.doubt plan.now found listed.items (vec_capacity listed) self.old }
+        requires { IsReady (signs_of K.tells K.doubt K.faults) plan.now found listed.items (vec_capacity listed) self.old }
         ensures started { BoardsStarted plan.now found self.old.house_log self.new.house_log self.old.places self.new.places }
         ensures rows { self.new.house_log.core.rows ≡ rows_found found self.old.house_log.core.doubt self.old.house_log.core.rows }
         ensures keeper { self.new.keeper ≡ self.old.keeper }

@@ -2,7 +2,7 @@
 ghost use Rattle.std.specs.Prelude.{◌≡◌, ◌≤◌, ◌<◌, ◌+◌, false, IfSome, IsSome, None, OnOk, Some, Ok, length, unwrap_or};
 ghost use Rattle.update_log.specs.declared.answer.ClaimAnswer.{ClaimAnswer};
 ghost use Rattle.update_log.specs.declared.event.Event.{Event};
-ghost use Rattle.update_log.specs.CoreSteps.{is_taken};
+ghost use Rattle.core_state.specs.CoreSteps.{is_taken};
 ghost use Rattle.update_log.specs.Holding.{hold, live_entry};
 ghost use Rattle.update_log.specs.Steps.{trace};
 ghost use Rattle.update_log.specs.Pasts.{boots};
@@ -10,7 +10,7 @@ ghost use Rattle.daemon_core.specs.declared.fetched.Fetched.{Fetched};
 ghost use Rattle.daemon_core.specs.Claims.{ClaimGave, IsToStore, MayAnswer, MayClaim, RoomierPlaces, claim_event, claim_verdict, place_given, places_without, plugin_at, stopped_by};
 ghost use Rattle.daemon_core.specs.Fetches.{IsFetchOf, IsPayloadOf, block_count, is_payload, note_of};
 ghost use Rattle.daemon_core.specs.Holds.{held_by};
-ghost use Rattle.daemon_core.specs.Housed.{past_in, rows_before};
+ghost use Rattle.daemon_core.specs.Housed.{basis_in, past_in};
 ghost use Rattle.daemon_core.specs.PutOff.{IsAccept};
 ghost use Rattle.daemon_core.specs.Returns.{place_at};
 
@@ -29,9 +29,10 @@ use history_keeper::{Change, Keeper, KeeperRefusal, Row};
 use update_log::{ClaimAnswer, Decision, Event, FetchNote, Refusal, Stage};
 
 impl<K: Keeper> House<K> {
+    ghost use Rattle.history_keeper.specs.Signs.{signs_of};
     ghost use Rattle.daemon_core.specs.HouseLog.{Appended};
     ghost use Rattle.daemon_core.specs.Housed.{past};
-    ghost use Rattle.daemon_core.specs.Turns.{KeeperFared, Turned, signs_of};
+    ghost use Rattle.daemon_core.specs.Turns.{KeeperFared, Turned};
 
     /// Claims what was asked for. The ticket is of the client's open hold, which no row that was put off
     /// made; the blocks of the fetch are the hold's, and a whole payload is that of the ticket's release. A
@@ -48,7 +49,7 @@ impl<K: Keeper> House<K> {
         requires whole { IsFetchOf self.old.house_log.facts ticket.release fetched }
         ensures turn { Turned client (claim_event client ticket.request fetched) (stopped_by result) self.old.house_log self.new.house_log }
         ensures gave { ClaimGave client ticket fetched result self.old self.new }
-        ensures fared { KeeperFared (signs_of K.tells K.faults) self.old self.new }
+        ensures fared { KeeperFared (signs_of K.tells K.doubt K.faults) self.old self.new }
         ensures counts { K.faults self.old.keeper ≤ K.faults self.new.keeper }
     {
         match self.enter(client, 16) {
@@ -72,7 +73,7 @@ impl<K: Keeper> House<K> {
         requires whole { IsFetchOf self.old.house_log.facts ticket.release fetched }
         ensures turn { Turned client (claim_event client ticket.request fetched) (stopped_by result) self.old.house_log self.new.house_log }
         ensures gave { ClaimGave client ticket fetched result self.old self.new }
-        ensures fared { KeeperFared (signs_of K.tells K.faults) self.old self.new }
+        ensures fared { KeeperFared (signs_of K.tells K.doubt K.faults) self.old self.new }
         ensures counts { K.faults self.old.keeper ≤ K.faults self.new.keeper }
     {
         let decision = self.decided_claim(client, &ticket);
@@ -112,7 +113,7 @@ impl<K: Keeper> House<K> {
         requires whole { IsFetchOf self.old.house_log.facts ticket.release fetched }
         ensures turn { Turned client (claim_event client ticket.request fetched) (stopped_by result) self.old.house_log self.new.house_log }
         ensures gave { ClaimGave client ticket fetched result self.old self.new }
-        ensures fared { KeeperFared (signs_of K.tells K.faults) self.old self.new }
+        ensures fared { KeeperFared (signs_of K.tells K.doubt K.faults) self.old self.new }
         ensures counts { K.faults self.old.keeper ≤ K.faults self.new.keeper }
     {
         match fetched.into_payload() {
@@ -128,7 +129,7 @@ impl<K: Keeper> House<K> {
         requires broken { is_payload fetched ≡ false }
         ensures appended { Appended client (claim_event client ticket.request fetched result) self.old.house_log self.new.house_log }
         ensures gave { ClaimGave client ticket fetched (Ok result) self.old self.new }
-        ensures fared { KeeperFared (signs_of K.tells K.faults) self.old self.new }
+        ensures fared { KeeperFared (signs_of K.tells K.doubt K.faults) self.old self.new }
         ensures counts { K.faults self.old.keeper ≤ K.faults self.new.keeper }
     {
         let refusal = Refusal::Payload(fetched.note());
@@ -160,7 +161,7 @@ impl<K: Keeper> House<K> {
         requires whole { IsPayloadOf self.old.house_log.facts ticket.release payload }
         ensures turn { Turned client (claim_event client ticket.request (Fetched.Whole payload)) (stopped_by result) self.old.house_log self.new.house_log }
         ensures gave { ClaimGave client ticket (Fetched.Whole payload) result self.old self.new }
-        ensures fared { KeeperFared (signs_of K.tells K.faults) self.old self.new }
+        ensures fared { KeeperFared (signs_of K.tells K.doubt K.faults) self.old self.new }
         ensures counts { K.faults self.old.keeper ≤ K.faults self.new.keeper }
     {
         self.house_log.known();
@@ -209,7 +210,7 @@ impl<K: Keeper> House<K> {
         requires marks { IfSome (place_at self.old.places number).board (λ b. 8 ≤ b.room) }
         ensures turn { Turned client (claim_event client ticket.request (Fetched.Whole payload)) (stopped_by result) self.old.house_log self.new.house_log }
         ensures gave { ClaimGave client ticket (Fetched.Whole payload) result self.old self.new }
-        ensures fared { KeeperFared (signs_of K.tells K.faults) self.old self.new }
+        ensures fared { KeeperFared (signs_of K.tells K.doubt K.faults) self.old self.new }
         ensures counts { K.faults self.old.keeper ≤ K.faults self.new.keeper }
     {
         self.house_log.known();
@@ -298,7 +299,7 @@ pub(crate) fn taken(
     ensures plugin { result.plugin ≡ place_given (unwrap_or (plugin_at house_log.now.facts number) 0) }
     ensures board { result.board ≡ board }
     ensures payload { result.payload ≡ payload }
-    ensures traced { trace house_log.now.facts (rows_before house_log.now) entry (past_in house_log.now) ≡ Some result.trace }
+    ensures traced { trace (basis_in house_log.now) entry (past_in house_log.now) ≡ Some result.trace }
 {
     Taken {
         entry,

@@ -4,6 +4,7 @@ ghost use Rattle.outer_traits.specs.Faults.{Rose};
 ghost use Rattle.history_keeper.specs.declared.change.Change.{Change};
 ghost use Rattle.history_keeper.specs.declared.row.Row.{Row};
 ghost use Rattle.history_keeper.specs.declared.row.RowState.{RowState};
+ghost use Rattle.history_keeper.specs.Signs.{signs_of};
 ghost use Rattle.update_log.specs.declared.event.Event.{Event};
 ghost use Rattle.update_log.specs.declared.event.Stored.{Stored};
 ghost use Rattle.update_log.specs.declared.live.LiveEntry.{LiveEntry};
@@ -26,9 +27,10 @@ use history_keeper::{Keeper, RowState};
 use update_log::{Event, Stored};
 
 impl<K: Keeper> House<K> {
+    ghost use Rattle.history_keeper.specs.Signs.{signs_of};
     ghost use Rattle.daemon_core.specs.HouseLog.{Appended, Runs};
-    ghost use Rattle.daemon_core.specs.Housed.{past, rows_before};
-    ghost use Rattle.daemon_core.specs.Turns.{KeeperFared, signs_of};
+    ghost use Rattle.daemon_core.specs.Housed.{basis_in, past};
+    ghost use Rattle.daemon_core.specs.Turns.{KeeperFared};
 
     /// Finishes a live entry that has no next step: its row gets the state in which the entry ends, its
     /// board comes home, and its blocks go to the pool. Of want of memory the row stays begun. It takes no
@@ -41,11 +43,11 @@ impl<K: Keeper> House<K> {
         payload: Payload,
     ) -> Result<Finished, FinishStop>
         requires booted { 0 < boots (past self.old) }
-        requires comes { (number : ℕ) × (l : LiveEntry) × ComesHome self.old.house_log.facts self.old.house_log.first (rows_before self.old.house_log) (past self.old) client entry number l [] board payload.count }
-        requires done { (closed : RowState) × IsDone self.old.house_log.facts (rows_before self.old.house_log) (past self.old) entry closed }
-        ensures turn { FinishedSo client entry (number_of self.old.house_log.facts (rows_before self.old.house_log) (past self.old) entry) board payload result self.old self.new }
+        requires comes { (number : ℕ) × (l : LiveEntry) × ComesHome (basis_in self.old.house_log) self.old.house_log.first (past self.old) client entry number l [] board payload.count }
+        requires done { (closed : RowState) × IsDone (basis_in self.old.house_log) (past self.old) entry closed }
+        ensures turn { FinishedSo client entry (number_of (basis_in self.old.house_log) (past self.old) entry) board payload result self.old self.new }
         ensures memory { AdvancesForFree K.takes_none → IfOk result (λ finished. finished.stored ≢ Stored.NoMemory) }
-        ensures fared { KeeperFared (signs_of K.tells K.faults) self.old self.new }
+        ensures fared { KeeperFared (signs_of K.tells K.doubt K.faults) self.old self.new }
         ensures counts { K.faults self.old.keeper ≤ K.faults self.new.keeper }
     {
         match self.go_on(client) {
@@ -59,13 +61,13 @@ impl<K: Keeper> House<K> {
         requires loaded { self.old.house_log.loaded ≡ true }
         requires runs { Runs self.old.house_log }
         requires booted { 0 < boots (past self.old) }
-        requires comes { (number : ℕ) × (l : LiveEntry) × ComesHome self.old.house_log.facts self.old.house_log.first (rows_before self.old.house_log) (past self.old) client entry number l [] board payload.count }
-        requires done { (closed : RowState) × IsDone self.old.house_log.facts (rows_before self.old.house_log) (past self.old) entry closed }
+        requires comes { (number : ℕ) × (l : LiveEntry) × ComesHome (basis_in self.old.house_log) self.old.house_log.first (past self.old) client entry number l [] board payload.count }
+        requires done { (closed : RowState) × IsDone (basis_in self.old.house_log) (past self.old) entry closed }
         ensures appended { Appended client (Event.Finish client entry result.state result.stored) self.old.house_log self.new.house_log }
-        ensures places { self.new.places ≡ places_with self.old.places (number_of self.old.house_log.facts (rows_before self.old.house_log) (past self.old) entry) board }
+        ensures places { self.new.places ≡ places_with self.old.places (number_of (basis_in self.old.house_log) (past self.old) entry) board }
         ensures pool { self.new.pool.free ≡ self.old.pool.free + payload.count }
         ensures memory { AdvancesForFree K.takes_none → result.stored ≢ Stored.NoMemory }
-        ensures fared { KeeperFared (signs_of K.tells K.faults) self.old self.new }
+        ensures fared { KeeperFared (signs_of K.tells K.doubt K.faults) self.old self.new }
         ensures counts { K.faults self.old.keeper ≤ K.faults self.new.keeper }
     {
         self.house_log.known();
@@ -93,7 +95,7 @@ fn store<K: Keeper>(house_log: &HouseLog, keeper: &mut K, entry: u32, closed: Ro
     requires no_doubt { K.doubt keeper.old ≡ None }
     requires suits { (all : List Row) → K.tells keeper.old all → Any (λ row. row.entry ≡ entry) all }
     requires timely { time_of (past_in house_log.now) ≤ 2 ^ 63 - 1 }
-    ensures stored { ClosedAs K.tells K.doubt closed (Change.Advance entry closed (reason_of house_log.now.core.rows entry) (time_of (past_in house_log.now))) result keeper.old keeper.new }
+    ensures stored { ClosedAs (signs_of K.tells K.doubt K.faults) closed (Change.Advance entry closed (reason_of house_log.now.core.rows entry) (time_of (past_in house_log.now))) result keeper.old keeper.new }
     ensures memory { AdvancesForFree K.takes_none → result ≢ Stored.NoMemory }
     ensures cause { result ≡ Stored.Fault → Rose (K.faults keeper.old) (K.faults keeper.new) }
     ensures quiet { (result ≡ Stored.Fault) ⊎ (K.faults keeper.new ≡ K.faults keeper.old) }

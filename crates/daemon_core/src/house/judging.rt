@@ -15,13 +15,14 @@ use update_log::{Event, Stored};
 use version_formats::Version;
 
 impl<K: Keeper> House<K> {
+    ghost use Rattle.history_keeper.specs.Signs.{signs_of};
     ghost use Rattle.daemon_core.specs.declared.judged.Standing.{Standing};
     ghost use Rattle.daemon_core.specs.HouseLog.{Runs, roomier};
     ghost use Rattle.daemon_core.specs.House.{SameElsewhere};
     ghost use Rattle.daemon_core.specs.Housed.{past};
     ghost use Rattle.daemon_core.specs.Judging.{JudgeTurned, standing_of};
     ghost use Rattle.daemon_core.specs.Owed.{owed};
-    ghost use Rattle.daemon_core.specs.Turns.{KeeperFared, Turned, signs_of};
+    ghost use Rattle.daemon_core.specs.Turns.{KeeperFared, Turned};
 
     // Lets the keeper store a judgement, and puts it behind the log.
     pub(crate) fn judge_so(
@@ -39,7 +40,7 @@ impl<K: Keeper> House<K> {
         ensures turn { Turned client (λ stored. Event.Judge client entry version state stored) result self.old.house_log self.new.house_log }
         ensures places { self.new.places ≡ self.old.places }
         ensures pool { self.new.pool ≡ self.old.pool }
-        ensures fared { KeeperFared (signs_of K.tells K.faults) self.old self.new }
+        ensures fared { KeeperFared (signs_of K.tells K.doubt K.faults) self.old self.new }
         ensures counts { K.faults self.old.keeper ≤ K.faults self.new.keeper }
     {
         self.house_log.known();
@@ -74,7 +75,7 @@ impl<K: Keeper> House<K> {
         ensures turn { JudgeTurned client entry result self.old.house_log self.new.house_log }
         ensures places { self.new.places ≡ self.old.places }
         ensures pool { self.new.pool ≡ self.old.pool }
-        ensures fared { KeeperFared (signs_of K.tells K.faults) self.old self.new }
+        ensures fared { KeeperFared (signs_of K.tells K.doubt K.faults) self.old self.new }
         ensures counts { K.faults self.old.keeper ≤ K.faults self.new.keeper }
     {
         self.enter(client, 1)?;
@@ -99,7 +100,7 @@ impl<K: Keeper> House<K> {
         ensures turn { JudgeTurned client entry result self.old.house_log self.new.house_log }
         ensures places { self.new.places ≡ self.old.places }
         ensures pool { self.new.pool ≡ self.old.pool }
-        ensures fared { KeeperFared (signs_of K.tells K.faults) self.old self.new }
+        ensures fared { KeeperFared (signs_of K.tells K.doubt K.faults) self.old self.new }
         ensures counts { K.faults self.old.keeper ≤ K.faults self.new.keeper }
     {
         match standing_of(self.house_log.core(), entry) {
@@ -119,7 +120,7 @@ impl<K: Keeper> House<K> {
         ensures turn { JudgeTurned client entry result self.old.house_log self.new.house_log }
         ensures places { self.new.places ≡ self.old.places }
         ensures pool { self.new.pool ≡ self.old.pool }
-        ensures fared { KeeperFared (signs_of K.tells K.faults) self.old self.new }
+        ensures fared { KeeperFared (signs_of K.tells K.doubt K.faults) self.old self.new }
         ensures counts { K.faults self.old.keeper ≤ K.faults self.new.keeper }
     {
         if self.is_off() {

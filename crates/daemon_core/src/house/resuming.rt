@@ -23,8 +23,9 @@ use history_keeper::{Keeper, KeeperRefusal};
 use update_log::{Decision, Event, FetchNote, Refusal, ResumeAnswer, Stage, Stored};
 
 impl<K: Keeper> House<K> {
+    ghost use Rattle.history_keeper.specs.Signs.{signs_of};
     ghost use Rattle.daemon_core.specs.Housed.{past};
-    ghost use Rattle.daemon_core.specs.Turns.{KeeperFared, signs_of};
+    ghost use Rattle.daemon_core.specs.Turns.{KeeperFared};
 
     /// Resumes the install of a row that was put off, which is the daemon's own. What comes in is the open
     /// hold that this row made, with a fetch of its blocks, whose payload, if it is whole, is that of the
@@ -41,7 +42,7 @@ impl<K: Keeper> House<K> {
         requires held { ComesIn self.old.house_log entry held }
         ensures turn { ResumeTurned entry (note_in held) result self.old.house_log self.new.house_log }
         ensures gave { ResumeGave entry held result self.old self.new }
-        ensures fared { KeeperFared (signs_of K.tells K.faults) self.old self.new }
+        ensures fared { KeeperFared (signs_of K.tells K.doubt K.faults) self.old self.new }
         ensures counts { K.faults self.old.keeper ≤ K.faults self.new.keeper }
     {
         match self.enter(0, 16) {
@@ -60,7 +61,7 @@ impl<K: Keeper> House<K> {
         requires held { ComesIn self.old.house_log entry held }
         ensures turn { ResumeTurned entry (note_in held) result self.old.house_log self.new.house_log }
         ensures gave { ResumeGave entry held result self.old self.new }
-        ensures fared { KeeperFared (signs_of K.tells K.faults) self.old self.new }
+        ensures fared { KeeperFared (signs_of K.tells K.doubt K.faults) self.old self.new }
         ensures counts { K.faults self.old.keeper ≤ K.faults self.new.keeper }
     {
         match held {
@@ -75,7 +76,7 @@ impl<K: Keeper> House<K> {
         requires refused { (refusal : Refusal) × WasRefused self.old.house_log entry refusal }
         ensures turn { ResumeTurned entry None result self.old.house_log self.new.house_log }
         ensures gave { ResumeGave entry None result self.old self.new }
-        ensures fared { KeeperFared (signs_of K.tells K.faults) self.old self.new }
+        ensures fared { KeeperFared (signs_of K.tells K.doubt K.faults) self.old self.new }
         ensures counts { K.faults self.old.keeper ≤ K.faults self.new.keeper }
     {
         self.house_log.known();
@@ -96,7 +97,7 @@ impl<K: Keeper> House<K> {
         requires held { IsOpenHold self.old.house_log entry ticket fetched }
         ensures turn { ResumeTurned entry (Some (note_of fetched)) result self.old.house_log self.new.house_log }
         ensures gave { ResumeGave entry (Some (ticket, fetched)) result self.old self.new }
-        ensures fared { KeeperFared (signs_of K.tells K.faults) self.old self.new }
+        ensures fared { KeeperFared (signs_of K.tells K.doubt K.faults) self.old self.new }
         ensures counts { K.faults self.old.keeper ≤ K.faults self.new.keeper }
     {
         let decision = self.decided_resume(entry, &ticket);
@@ -130,7 +131,7 @@ impl<K: Keeper> House<K> {
         requires accepted { IsAccept (resume_verdict self.old.house_log entry ticket) }
         ensures turn { ResumeTurned entry (Some (note_of fetched)) result self.old.house_log self.new.house_log }
         ensures gave { ResumeGave entry (Some (ticket, fetched)) result self.old self.new }
-        ensures fared { KeeperFared (signs_of K.tells K.faults) self.old self.new }
+        ensures fared { KeeperFared (signs_of K.tells K.doubt K.faults) self.old self.new }
         ensures counts { K.faults self.old.keeper ≤ K.faults self.new.keeper }
     {
         match fetched.into_payload() {
@@ -154,7 +155,7 @@ impl<K: Keeper> House<K> {
         requires accepted { IsAccept (resume_verdict self.old.house_log entry ticket) }
         ensures turn { ResumeTurned entry (Some (note_of (Fetched.Whole payload))) result self.old.house_log self.new.house_log }
         ensures gave { ResumeGave entry (Some (ticket, Fetched.Whole payload)) result self.old self.new }
-        ensures fared { KeeperFared (signs_of K.tells K.faults) self.old self.new }
+        ensures fared { KeeperFared (signs_of K.tells K.doubt K.faults) self.old self.new }
         ensures counts { K.faults self.old.keeper ≤ K.faults self.new.keeper }
     {
         self.house_log.known();
@@ -180,7 +181,7 @@ impl<K: Keeper> House<K> {
         requires marks { IfSome (place_at self.old.places number).board (λ b. 8 ≤ b.room) }
         ensures turn { ResumeTurned entry (Some (note_of (Fetched.Whole payload))) result self.old.house_log self.new.house_log }
         ensures gave { ResumeGave entry (Some (ticket, Fetched.Whole payload)) result self.old self.new }
-        ensures fared { KeeperFared (signs_of K.tells K.faults) self.old self.new }
+        ensures fared { KeeperFared (signs_of K.tells K.doubt K.faults) self.old self.new }
         ensures counts { K.faults self.old.keeper ≤ K.faults self.new.keeper }
     {
         self.house_log.known();
@@ -217,7 +218,7 @@ impl<K: Keeper> House<K> {
         requires fails { MayFail self.old.house_log entry held refusal }
         ensures turn { ResumeTurned entry (note_in held) result self.old.house_log self.new.house_log }
         ensures gave { ResumeGave entry held result self.old self.new }
-        ensures fared { KeeperFared (signs_of K.tells K.faults) self.old self.new }
+        ensures fared { KeeperFared (signs_of K.tells K.doubt K.faults) self.old self.new }
         ensures counts { K.faults self.old.keeper ≤ K.faults self.new.keeper }
     {
         self.house_log.known();

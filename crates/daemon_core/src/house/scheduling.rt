@@ -12,11 +12,12 @@ use history_keeper::{Change, Keeper, KeeperRefusal};
 use update_log::{ClaimAnswer, Decision, Event, Refusal, Request, Stage};
 
 impl<K: Keeper> House<K> {
+    ghost use Rattle.history_keeper.specs.Signs.{signs_of};
     ghost use Rattle.daemon_core.specs.HouseLog.{Appended, Runs};
-    ghost use Rattle.daemon_core.specs.Housed.{past, rows_before};
+    ghost use Rattle.daemon_core.specs.Housed.{basis_in, past};
     ghost use Rattle.daemon_core.specs.Owed.{owed};
     ghost use Rattle.daemon_core.specs.PutOff.{IsAccept, PutOff};
-    ghost use Rattle.daemon_core.specs.Turns.{KeeperFared, Turned, signs_of};
+    ghost use Rattle.daemon_core.specs.Turns.{KeeperFared, Turned};
 
     /// Puts an install off to the next boot; the client must have nothing out. Where it is accepted, its
     /// row is stored as pending.
@@ -24,7 +25,7 @@ impl<K: Keeper> House<K> {
         requires booted { 0 < boots (past self.old) }
         requires free { IsFree (past self.old) client }
         ensures turn { Turned client (λ answer. Event.Schedule client request.now answer) result self.old.house_log self.new.house_log }
-        ensures fared { KeeperFared (signs_of K.tells K.faults) self.old self.new }
+        ensures fared { KeeperFared (signs_of K.tells K.doubt K.faults) self.old self.new }
         ensures counts { K.faults self.old.keeper ≤ K.faults self.new.keeper }
         ensures places { self.new.places ≡ self.old.places }
         ensures pool { self.new.pool ≡ self.old.pool }
@@ -52,11 +53,11 @@ impl<K: Keeper> House<K> {
         requires runs { Runs self.old.house_log }
         requires loaded { self.old.house_log.loaded ≡ true }
         requires free { IsFree (past self.old) client }
-        requires accepted { IsAccept (verdict self.old.house_log.facts (rows_before self.old.house_log) (past self.old) client request.now Stage.Schedule) }
+        requires accepted { IsAccept (verdict (basis_in self.old.house_log) (past self.old) client request.now Stage.Schedule) }
         requires room { owed (past self.old) + 1 ≤ self.old.house_log.room }
         requires row_room { 1 ≤ self.old.house_log.core.row_room }
         ensures done { PutOff client request.now result self.old.house_log self.new.house_log }
-        ensures fared { KeeperFared (signs_of K.tells K.faults) self.old self.new }
+        ensures fared { KeeperFared (signs_of K.tells K.doubt K.faults) self.old self.new }
         ensures counts { K.faults self.old.keeper ≤ K.faults self.new.keeper }
         ensures places { self.new.places ≡ self.old.places }
         ensures pool { self.new.pool ≡ self.old.pool }

@@ -14,12 +14,13 @@ use history_keeper::Keeper;
 use update_log::{Event, Query};
 
 impl<K: Keeper> House<K> {
+    ghost use Rattle.history_keeper.specs.Signs.{signs_of};
     ghost use Rattle.daemon_core.specs.declared.judged.DeviceRow.{DeviceRow};
     ghost use Rattle.daemon_core.specs.HouseLog.{Runs};
     ghost use Rattle.daemon_core.specs.Housed.{past};
     ghost use Rattle.daemon_core.specs.Owed.{owed};
     ghost use Rattle.daemon_core.specs.Settling.{SettleTurned, row_to_settle};
-    ghost use Rattle.daemon_core.specs.Turns.{KeeperFared, signs_of};
+    ghost use Rattle.daemon_core.specs.Turns.{KeeperFared};
 
     // Settles the row of a device that isn't settled.
     fn settle_row(&mut self, client: u32, device: &Selector, entry: u32) -> Result<Settling, Stop>
@@ -31,7 +32,7 @@ impl<K: Keeper> House<K> {
         ensures turn { SettleTurned client device.now result self.old.house_log self.new.house_log }
         ensures places { self.new.places ≡ self.old.places }
         ensures pool { self.new.pool ≡ self.old.pool }
-        ensures fared { KeeperFared (signs_of K.tells K.faults) self.old self.new }
+        ensures fared { KeeperFared (signs_of K.tells K.doubt K.faults) self.old self.new }
         ensures counts { K.faults self.old.keeper ≤ K.faults self.new.keeper }
     {
         self.house_log.known();
@@ -59,7 +60,7 @@ impl<K: Keeper> House<K> {
         ensures turn { SettleTurned client device.now result self.old.house_log self.new.house_log }
         ensures places { self.new.places ≡ self.old.places }
         ensures pool { self.new.pool ≡ self.old.pool }
-        ensures fared { KeeperFared (signs_of K.tells K.faults) self.old self.new }
+        ensures fared { KeeperFared (signs_of K.tells K.doubt K.faults) self.old self.new }
         ensures counts { K.faults self.old.keeper ≤ K.faults self.new.keeper }
     {
         self.enter(client, 1)?;

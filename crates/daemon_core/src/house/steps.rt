@@ -21,7 +21,7 @@ impl<K: Keeper> House<K> {
     ghost use Rattle.daemon_core.specs.HouseLog.{Appended, IsHouseLog, Runs};
     ghost use Rattle.daemon_core.specs.Goes.{GoesOn, TurnedOrOff};
     ghost use Rattle.daemon_core.specs.House.{SameElsewhere};
-    ghost use Rattle.daemon_core.specs.Housed.{past, rows_before};
+    ghost use Rattle.daemon_core.specs.Housed.{basis_in, past};
     ghost use Rattle.daemon_core.specs.Owed.{owed};
 
     // Enters a turn of a client for which room was kept. Where the boot's limit is reached, its power is
@@ -41,7 +41,7 @@ impl<K: Keeper> House<K> {
     /// this is the next one. It takes no memory.
     pub fn start(&mut self, client: u32, entry: u32, op: Op) -> Result<(), Off>
         requires booted { 0 < boots (past self.old) }
-        requires next { (l : LiveEntry) × StartAllowed self.old.house_log.facts (rows_before self.old.house_log) (past self.old) client entry op l }
+        requires next { (l : LiveEntry) × StartAllowed (basis_in self.old.house_log) (past self.old) client entry op l }
         ensures turn { TurnedOrOff client (λ _. Event.Start client entry op) result self.old.house_log self.new.house_log }
         ensures elsewhere { SameElsewhere self.old self.new }
     {
@@ -55,7 +55,7 @@ impl<K: Keeper> House<K> {
         requires loaded { self.old.house_log.loaded ≡ true }
         requires runs { Runs self.old.house_log }
         requires booted { 0 < boots (past self.old) }
-        requires next { (l : LiveEntry) × StartAllowed self.old.house_log.facts (rows_before self.old.house_log) (past self.old) client entry op l }
+        requires next { (l : LiveEntry) × StartAllowed (basis_in self.old.house_log) (past self.old) client entry op l }
         ensures appended { Appended client (Event.Start client entry op) self.old.house_log self.new.house_log }
         ensures elsewhere { SameElsewhere self.old self.new }
     {
@@ -75,8 +75,8 @@ impl<K: Keeper> House<K> {
         board: &Board,
     ) -> Result<(), Off>
         requires booted { 0 < boots (past self.old) }
-        requires ends { (number : ℕ) × StepEnds self.old.house_log.facts self.old.house_log.first (rows_before self.old.house_log) (past self.old) client entry op outcome number board.now }
-        ensures turn { TurnedOrOff client (λ _. Event.End client entry op outcome (new_marks self.old.house_log.facts (rows_before self.old.house_log) (past self.old) entry board.now.journal) (view_of board.now.condition)) result self.old.house_log self.new.house_log }
+        requires ends { (number : ℕ) × StepEnds (basis_in self.old.house_log) self.old.house_log.first (past self.old) client entry op outcome number board.now }
+        ensures turn { TurnedOrOff client (λ _. Event.End client entry op outcome (new_marks (basis_in self.old.house_log) (past self.old) entry board.now.journal) (view_of board.now.condition)) result self.old.house_log self.new.house_log }
         ensures places { SameBoards self.old.places self.new.places }
         ensures pool { self.new.pool ≡ self.old.pool }
         ensures keeper { self.new.keeper ≡ self.old.keeper }
@@ -99,8 +99,8 @@ impl<K: Keeper> House<K> {
         requires loaded { self.old.house_log.loaded ≡ true }
         requires runs { Runs self.old.house_log }
         requires booted { 0 < boots (past self.old) }
-        requires ends { (number : ℕ) × StepEnds self.old.house_log.facts self.old.house_log.first (rows_before self.old.house_log) (past self.old) client entry op outcome number board.now }
-        ensures appended { Appended client (Event.End client entry op outcome (new_marks self.old.house_log.facts (rows_before self.old.house_log) (past self.old) entry board.now.journal) (view_of board.now.condition)) self.old.house_log self.new.house_log }
+        requires ends { (number : ℕ) × StepEnds (basis_in self.old.house_log) self.old.house_log.first (past self.old) client entry op outcome number board.now }
+        ensures appended { Appended client (Event.End client entry op outcome (new_marks (basis_in self.old.house_log) (past self.old) entry board.now.journal) (view_of board.now.condition)) self.old.house_log self.new.house_log }
         ensures places { SameBoards self.old.places self.new.places }
         ensures pool { self.new.pool ≡ self.old.pool }
         ensures keeper { self.new.keeper ≡ self.old.keeper }
@@ -127,9 +127,9 @@ impl<K: Keeper> House<K> {
     pub fn give_back(&mut self, client: u32, entry: u32, board: Board, payload: Payload)
         requires booted { 0 < boots (past self.old) }
         requires off { off (past self.old) ≡ true }
-        requires comes { (number : ℕ) × (l : LiveEntry) × (tail : List Mark) × ComesHome self.old.house_log.facts self.old.house_log.first (rows_before self.old.house_log) (past self.old) client entry number l tail board payload.count }
+        requires comes { (number : ℕ) × (l : LiveEntry) × (tail : List Mark) × ComesHome (basis_in self.old.house_log) self.old.house_log.first (past self.old) client entry number l tail board payload.count }
         ensures appended { Appended client (Event.GiveBack client (Back.Entry entry)) self.old.house_log self.new.house_log }
-        ensures places { self.new.places ≡ places_with self.old.places (number_of self.old.house_log.facts (rows_before self.old.house_log) (past self.old) entry) board }
+        ensures places { self.new.places ≡ places_with self.old.places (number_of (basis_in self.old.house_log) (past self.old) entry) board }
         ensures pool { self.new.pool.free ≡ self.old.pool.free + payload.count }
         ensures keeper { self.new.keeper ≡ self.old.keeper }
     {

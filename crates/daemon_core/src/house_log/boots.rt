@@ -1,6 +1,7 @@
 //! Boots, and the rows that they load.
-ghost use Rattle.std.specs.Prelude.{◌≡◌, ◌≤◌, ◌<◌, ◌+◌, ◌-◌, ◌^◌, true, false, length};
+ghost use Rattle.std.specs.Prelude.{◌≡◌, ◌≤◌, ◌<◌, ◌+◌, ◌-◌, ◌^◌, true, false, length, map};
 ghost use Rattle.history_keeper.specs.Histories.{IsHistory};
+ghost use Rattle.row_index.specs.Formers.{former_of};
 ghost use Rattle.update_log.specs.Crashes.{next_boot};
 ghost use Rattle.update_log.specs.Holding.{holds, live};
 ghost use Rattle.update_log.specs.Known.{rows_found};
@@ -9,41 +10,42 @@ ghost use Rattle.update_log.specs.Pasts.{boots, is_found_fault};
 ghost use Rattle.daemon_core.specs.Keeping.{still_reopened};
 
 use super::HouseLog;
+use super::opening::{Opening, is_taken};
 use fw_base::Listed;
 use history_keeper::Row;
+use row_index::Former;
 use update_log::{BoardSeen, BootPlan, Event, Found};
 
 impl HouseLog {
     ghost use Rattle.daemon_core.specs.HouseLog.{Appended, IsHouseLog};
     ghost use Rattle.daemon_core.specs.Booting.{AllListed, opened};
-    ghost use Rattle.daemon_core.specs.Housed.{past_in, rows_before};
+    ghost use Rattle.daemon_core.specs.Housed.{basis_in, past_in};
 
     /// Whether a boot took the rows that it loaded.
     pub(crate) fn is_loaded(&self) -> bool
         ensures { result ≡ self.now.loaded }
     {
-        self.loaded
+        is_taken(&self.opening)
     }
 
-    /// Takes the rows that were loaded for those before the log.
-    pub(crate) fn take_opening(&mut self, opening: Vec<Row>, rows: Vec<Row>)
+    /// Takes the rows that were loaded for those before the log; the first list says what each of them is now.
+    pub(crate) fn take_opening(&mut self, formers: Vec<Former>, rows: Vec<Row>)
         requires unloaded { self.old.loaded ≡ false }
-        requires same { opening.items ≡ rows.items }
+        requires formers { formers.items ≡ map former_of rows.items }
         requires history { IsHistory rows.items }
         ensures opened { self.new ≡ opened rows.items self.new.core.row_room self.old }
     {
         self.known();
-        self.opening = opening;
-        self.loaded = true;
+        self.opening = Opening::Taken(formers);
         self.core.set_rows(rows);
     }
 
     /// Keeps the rows that were loaded, and aren't taken.
-    pub(crate) fn refuse_opening(&mut self, opening: Vec<Row>)
+    pub(crate) fn refuse_opening(&mut self, rows: Vec<Row>)
         requires unloaded { self.old.loaded ≡ false }
-        ensures kept { self.new ≡ record self.old { opening = opening.items } }
+        ensures kept { self.new ≡ record self.old { opening = rows.items } }
     {
-        self.opening = opening;
+        self.opening = Opening::Untaken(rows);
     }
 
     /// Notes that the keeper is to be opened again.
@@ -64,7 +66,7 @@ impl HouseLog {
 
     /// Puts the next boot behind the log.
     pub(crate) fn note_boot(&mut self, plan: &BootPlan, found: Found, boards: Vec<BoardSeen>)
-        requires listed { AllListed self.old.facts self.old.first (rows_before self.old) (past_in self.old) plan.now boards.items }
+        requires listed { AllListed (basis_in self.old) self.old.first (past_in self.old) plan.now boards.items }
         requires found { FoundAllowed found self.old.core.doubt }
         requires loaded { self.old.loaded ≡ false → is_found_fault found ≡ true }
         requires room { 2 ≤ self.old.room }

@@ -23,13 +23,13 @@ use release_catalogue::ReleaseRef;
 use update_log::{ClaimAnswer, Event, Facts, FetchNote, Request, Trace};
 
 impl HouseLog {
-    ghost use Rattle.daemon_core.specs.Housed.{past_in, rows_before};
+    ghost use Rattle.daemon_core.specs.Housed.{basis_in, past_in};
     ghost use Rattle.daemon_core.specs.PutOff.{IsAccept};
 
     /// The row that a claim adds whose request is accepted.
     pub fn row_begun(&self, client: u32, request: &Request, release: ReleaseRef) -> Row
-        requires { IsAccept (verdict self.now.facts (rows_before self.now) (past_in self.now) client request.now (Stage.Claim release)) }
-        ensures added { addition self.now.facts (time_of (past_in self.now)) (live (past_in self.now)) (known self.now.facts (rows_before self.now) (past_in self.now)) client request.now RowState.Begun ≡ Some (Change.Add result) }
+        requires { IsAccept (verdict (basis_in self.now) (past_in self.now) client request.now (Stage.Claim release)) }
+        ensures added { addition self.now.facts (time_of (past_in self.now)) (live (past_in self.now)) (known (basis_in self.now) (past_in self.now)) client request.now RowState.Begun ≡ Some (Change.Add result) }
         ensures entry { result.entry ≡ length self.now.core.rows + 1 }
         ensures suits { Suits (Change.Add result) self.now.core.rows }
         ensures timely { IsTimely (Change.Add result) }
@@ -57,7 +57,7 @@ impl HouseLog {
     /// How far a live entry has come.
     pub fn trace(&self, entry: u32) -> Trace
         requires { IsSome (live_entry (past_in self.now) entry) }
-        ensures { trace self.now.facts (rows_before self.now) entry (past_in self.now) ≡ Some result }
+        ensures { trace (basis_in self.now) entry (past_in self.now) ≡ Some result }
     {
         self.core.trace(entry)
     }

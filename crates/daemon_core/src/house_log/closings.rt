@@ -2,25 +2,25 @@
 ghost use Rattle.std.specs.Prelude.{◌≡◌, IsSome, List, option_and_then, option_copied};
 ghost use Rattle.history_keeper.specs.declared.row.Row.{Row};
 ghost use Rattle.history_keeper.specs.declared.change.Change.{Change};
-ghost use Rattle.update_log.specs.declared.facts.Facts.{Facts};
-ghost use Rattle.update_log.specs.Core.{Stands};
+ghost use Rattle.core_state.specs.Core.{Stands};
 ghost use Rattle.update_log.specs.Holding.{live_entry};
-ghost use Rattle.update_log.specs.Known.{reason_of};
+ghost use Rattle.update_log.specs.Known.{Basis, reason_of};
 ghost use Rattle.update_log.specs.Pasts.{past_of, time_of};
 ghost use Rattle.update_log.specs.Steps.{closing, closing_at, view_of_row};
 
 use super::HouseLog;
+use core_state::CoreState;
 use fw_facts::DeviceView;
 use history_keeper::{Change, Row, RowState};
-use update_log::{CoreState, Trace, closing};
+use update_log::{Trace, closing};
 
 impl HouseLog {
-    ghost use Rattle.daemon_core.specs.Housed.{past_in, rows_before};
+    ghost use Rattle.daemon_core.specs.Housed.{basis_in, past_in};
 
     /// In which state a live entry ends, as it stands now.
     pub fn closing(&self, entry: u32) -> Option<RowState>
         requires { IsSome (live_entry (past_in self.now) entry) }
-        ensures { result ≡ closing self.now.facts (rows_before self.now) (past_in self.now) entry }
+        ensures { result ≡ closing (basis_in self.now) (past_in self.now) entry }
     {
         closing_in(&self.core, entry)
     }
@@ -51,7 +51,7 @@ fn reason_in(core: &CoreState, entry: u32) -> u8
 
 fn closing_in(core: &CoreState, entry: u32) -> Option<RowState>
     requires { IsSome (live_entry (past_of core.now.log) entry) }
-    ensures { (facts : Facts) (opening : List Row) → Stands facts opening core.now → result ≡ closing facts opening (past_of core.now.log) entry }
+    ensures { (basis : Basis) → Stands basis core.now → result ≡ closing basis (past_of core.now.log) entry }
 {
     let trace = core.trace(entry);
     closing_with(&trace, core.row(entry), core.views())

@@ -2,13 +2,14 @@
 ghost use Rattle.std.specs.Prelude.{◌≡◌, ◌≤◌, ◌<◌, ◌+◌, ◌∷◌, false};
 ghost use Rattle.update_log.specs.declared.event.Event.{Event};
 ghost use Rattle.update_log.specs.Known.{board_of};
-ghost use Rattle.update_log.specs.CoreSteps.{board_of_entry, board_on};
+ghost use Rattle.core_state.specs.CoreSteps.{board_of_entry, board_on};
 ghost use Rattle.update_log.specs.Pasts.{boots, off};
 
 use super::HouseLog;
 use crate::off::Off;
+use core_state::CoreState;
 use device_list::Selector;
-use update_log::{CoreState, Event};
+use update_log::Event;
 
 impl HouseLog {
     ghost use Rattle.daemon_core.specs.HouseLog.{IsHouseLog};

@@ -2,11 +2,12 @@
 ghost use Rattle.std.specs.Prelude.{◌≡◌};
 
 use super::HouseLog;
+use super::opening::opening_of;
 use history_keeper::Row;
 use update_log::{Facts, Log};
 
 impl HouseLog {
-    /// The facts, the log, and the rows that the last boot loaded.
+    /// The facts, the log, and the rows that the last boot loaded. It takes no memory.
     pub fn into_parts(self) -> (Facts, Log, Vec<Row>)
         ensures facts { result.0 ≡ self.facts }
         ensures log { result.1 ≡ self.core.log }
@@ -16,11 +17,11 @@ impl HouseLog {
             facts,
             first: _,
             opening,
-            loaded: _,
             reopened: _,
             core,
             makers: _,
         } = self;
-        (facts, core.into_log(), opening)
+        let (log, rows) = core.into_log_and_rows();
+        (facts, log, opening_of(opening, rows))
     }
 }

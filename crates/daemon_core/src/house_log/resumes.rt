@@ -1,7 +1,7 @@
 //! What a resumption reads of the log.
 ghost use Rattle.std.specs.Prelude.{◌≡◌, ℕ, Some, find, option_and_then, option_copied, reverse};
 ghost use Rattle.history_keeper.specs.Changes.{IsTimely};
-ghost use Rattle.update_log.specs.CoreSteps.{resumption_on};
+ghost use Rattle.core_state.specs.CoreSteps.{resumption_on};
 ghost use Rattle.update_log.specs.Pasts.{time_of};
 ghost use Rattle.update_log.specs.declared.refusal.Refusal.{Refusal};
 ghost use Rattle.daemon_core.specs.Resumes.{WasRefused, is_refused, refused_by};

@@ -1,4 +1,4 @@
-use Rattle.std.proofs.Common.{◌-◌, sym, ◌∙◌}
+use Rattle.std.proofs.Common.{sym, ◌∙◌}
 use Rattle.client_scripts.specs.Replies.{row_line}
 use Rattle.client_scripts.proofs.First.{newest-64}
 use Rattle.client_scripts.proofs.rows.put_history.Goals as goal

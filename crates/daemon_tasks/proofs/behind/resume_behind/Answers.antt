@@ -47,7 +47,7 @@ returns-clause-went g c =
     (only-pass (λ (p : PassView Entry). BeginsWith log p.seen) c.push_reserved.new.self.items last items c.close-house.ensures.seen)
     (only-pass (HasItsEntries maker_of name.start log) c.push_reserved.new.self.items last items c.close-house.ensures.mine)
     c.resume_all-wanting.result
-    (TaskPlays name.facts name.opening (means_of (g.P.Shelf.files c.args.shelf.now) (steps_at (λ b. (goal.Plugin-dyn g (b.vtable, b.value)).steps b.value) c.args.plugins.now))) (map ToResume c.args.entries.now)
+    (TaskPlays name.basis (means_of (g.P.Shelf.files c.args.shelf.now) (steps_at (λ b. (goal.Plugin-dyn g (b.vtable, b.value)).steps b.value) c.args.plugins.now))) (map ToResume c.args.entries.now)
     (subst (λ (n : ℕ). All (λ (e : Entry). maker_of e < n) (beyond name.start log)) c.requires.seats c.close-house.ensures.makers) c.resume_all-wanting.ensures.went
 
 pub returns-clause-told : goal.returns-clause-told

@@ -1,12 +1,11 @@
-use Rattle.std.proofs.Common.{List, take}
-use Rattle.history_keeper.specs.declared.row.Row.{Row}
-use Rattle.update_log.specs.declared.facts.Facts.{Facts}
+use Rattle.std.proofs.Common.{take}
+use Rattle.history_keeper.specs.Signs.{signs_of}
 use Rattle.client_plays.specs.Tools.{Files, files_alone}
 use Rattle.daemon_tasks.proofs.JudgeLoops.{JudgedSoFar}
 use Rattle.daemon_tasks.proofs.judging.judge_all.Given as goal
-use Rattle.daemon_core.specs.Turns.{signs_of}
+use Rattle.update_log.specs.Known.{Basis}
 
 abbrev pub invariant-loop-entry : goal.invariant-loop-entry
 invariant-loop-entry g l = record {
-  so_far : (facts : Facts) (opening : List Row) (files : Files) → JudgedSoFar (signs_of g.K.Keeper.tells g.K.Keeper.faults) facts opening (files_alone files) l.wanting (take l.entry-index l.entries) l.initial.house l.house;
+  so_far : (basis : Basis) (files : Files) → JudgedSoFar (signs_of g.K.Keeper.tells g.K.Keeper.doubt g.K.Keeper.faults) basis (files_alone files) l.wanting (take l.entry-index l.entries) l.initial.house l.house;
 }

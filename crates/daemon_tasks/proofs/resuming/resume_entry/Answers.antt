@@ -30,7 +30,7 @@ resume_held-requires-clause-waits g c =
     let w = c.requires.waits in
     let a = c.in-Ok-Held in
     let t = rw a.field-0-is at (a.ensures.turn w.row w.row_is) in
-    asked-waits g.N.Naming.name c.args.daemon.now.id c.args.pass.now c.ask_pending.new.pass c.requires.pass t c.requires.own (request_of_row w.row) (Some c.args.entry) (answer_of (Asked.Held a.given)) t.does.1 c.args.entry w
+    asked-waits g.N.Naming.name c.args.runner.now.daemon.now.id c.args.pass.now c.ask_pending.new.pass c.requires.pass t c.requires.own (request_of_row w.row) (Some c.args.entry) (answer_of (Asked.Held a.given)) t.does.1 c.args.entry w
 
 pub resume_held-requires-clause-held : goal.resume_held-requires-clause-held
 resume_held-requires-clause-held g c =
@@ -55,8 +55,8 @@ resume_with-requires-clause-may g c =
     let w = c.requires.waits in
     let a = c.in-Ok-Refused in
     let t = rw a.field-0-is at (a.ensures.turn w.row w.row_is) in
-    refused-may g.N.Naming.name c.args.daemon.now.id c.args.pass.now c.ask_pending.new.pass c.requires.pass c.ask_pending.ensures.same c.requires.own t c.args.entry (request_of_row w.row) a.field-0-0 c.requires.free
-    (asked-waits g.N.Naming.name c.args.daemon.now.id c.args.pass.now c.ask_pending.new.pass c.requires.pass t c.requires.own (request_of_row w.row) (Some c.args.entry) (AskAnswer.Refused a.field-0-0) t.does.1 c.args.entry w)
+    refused-may g.N.Naming.name c.args.runner.now.daemon.now.id c.args.pass.now c.ask_pending.new.pass c.requires.pass c.ask_pending.ensures.same c.requires.own t c.args.entry (request_of_row w.row) a.field-0-0 c.requires.free
+    (asked-waits g.N.Naming.name c.args.runner.now.daemon.now.id c.args.pass.now c.ask_pending.new.pass c.requires.pass t c.requires.own (request_of_row w.row) (Some c.args.entry) (AskAnswer.Refused a.field-0-0) t.does.1 c.args.entry w)
     t.does
 
 pub unreachable-requires : goal.unreachable-requires
@@ -64,14 +64,14 @@ unreachable-requires g c =
     let w = c.requires.waits in
     let a = c.in-Ok-Kept in
     let t = rw a.field-0-is at (a.ensures.turn w.row w.row_is) in
-    pending-not_kept g.N.Naming.name c.args.daemon.now.id c.ask_pending.new.pass c.args.entry a.field-0-0 a.field-0-1 (request_of_row w.row) t.met c.ask_pending.ensures.pass t.does.1
+    pending-not_kept g.N.Naming.name c.args.runner.now.daemon.now.id c.ask_pending.new.pass c.args.entry a.field-0-0 a.field-0-1 (request_of_row w.row) t.met c.ask_pending.ensures.pass t.does.1
 
 pub returns-in-Ok-Held-clause-ended : goal.returns-in-Ok-Held-clause-ended
 returns-in-Ok-Held-clause-ended g c =
     let w = c.requires.waits in
     let a = c.in-Ok-Held in
     let t = rw a.field-0-is at (a.ensures.turn w.row w.row_is) in
-    asked-behind g.N.Naming.name c.args.daemon.now.id c.args.pass.now c.ask_pending.new.pass c.requires.pass c.ask_pending.ensures.same c.requires.own t
+    asked-behind g.N.Naming.name c.args.runner.now.daemon.now.id c.args.pass.now c.ask_pending.new.pass c.requires.pass c.ask_pending.ensures.same c.requires.own t
     (means_of (g.P.Shelf.files c.args.shelf.now) (steps_at (λ b. (goal.Plugin-dyn g (b.vtable, b.value)).steps b.value) c.args.plugins.now)) c.args.entry (request_of_row w.row) (answer_of (Asked.Held a.given)) c.resume_held.result c.resume_held.new.pass
     t.does.1 c.resume_held.ensures.ended
 
@@ -81,7 +81,7 @@ returns-in-Ok-Refused-clause-ended g c =
     let a = c.in-Ok-Refused in
     let t = rw a.field-0-is at (a.ensures.turn w.row w.row_is) in
     let files = g.P.Shelf.files c.args.shelf.now in
-    asked-behind g.N.Naming.name c.args.daemon.now.id c.args.pass.now c.ask_pending.new.pass c.requires.pass c.ask_pending.ensures.same c.requires.own t
+    asked-behind g.N.Naming.name c.args.runner.now.daemon.now.id c.args.pass.now c.ask_pending.new.pass c.requires.pass c.ask_pending.ensures.same c.requires.own t
     (means_of files (steps_at (λ b. (goal.Plugin-dyn g (b.vtable, b.value)).steps b.value) c.args.plugins.now)) c.args.entry (request_of_row w.row) (AskAnswer.Refused a.field-0-0) c.resume_with.result c.resume_with.new.pass
     t.does.1 (c.resume_with.ensures.ended files (AskAnswer.Refused a.field-0-0) refl)
 
@@ -89,7 +89,7 @@ pub returns-in-Err-clause-ended : goal.returns-in-Err-clause-ended
 returns-in-Err-clause-ended g c =
     let w = c.requires.waits in
     let t = c.in-Err.ensures.turn w.row w.row_is in
-    ask-stopped g.N.Naming.name c.args.daemon.now.id c.args.pass.now c.ask_pending.new.pass c.requires.pass c.ask_pending.ensures.same c.requires.own t
+    ask-stopped g.N.Naming.name c.args.runner.now.daemon.now.id c.args.pass.now c.ask_pending.new.pass c.requires.pass c.ask_pending.ensures.same c.requires.own t
     (means_of (g.P.Shelf.files c.args.shelf.now) (steps_at (λ b. (goal.Plugin-dyn g (b.vtable, b.value)).steps b.value) c.args.plugins.now)) c.args.entry
     (λ (asked : Asked). Event.Ask 0 (request_of_row w.row) (Some c.args.entry) (answer_of asked)) c.stopped_by.result c.in-Err.stop c.stopped_by.ensures c.requires.free t.does
 
@@ -99,7 +99,7 @@ returns-in-Ok-Held-clause-told g c =
     let a = c.in-Ok-Held in
     let t = rw a.field-0-is at (a.ensures.turn w.row w.row_is) in
     told-behind (own c.args.pass.now) (own c.ask_pending.new.pass) (own c.resume_held.new.pass) (g.P.Shelf.faults c.args.shelf.now) (g.P.Shelf.faults c.resume_held.new.shelf)
-    (asked-told g.N.Naming.name c.args.daemon.now.id c.args.pass.now c.ask_pending.new.pass c.requires.pass c.ask_pending.ensures.same c.requires.own t c.args.entry (request_of_row w.row) (answer_of (Asked.Held a.given)) t.does.1)
+    (asked-told g.N.Naming.name c.args.runner.now.daemon.now.id c.args.pass.now c.ask_pending.new.pass c.requires.pass c.ask_pending.ensures.same c.requires.own t c.args.entry (request_of_row w.row) (answer_of (Asked.Held a.given)) t.does.1)
     c.resume_held.ensures.told c.resume_held.ensures.counts
 
 pub returns-in-Ok-Refused-clause-told : goal.returns-in-Ok-Refused-clause-told
@@ -110,7 +110,7 @@ returns-in-Ok-Refused-clause-told g c =
     let x = g.P.Shelf.faults c.args.shelf.now in
     count-less (faults_in (own c.args.pass.now)) (faults_in (own c.resume_with.new.pass)) x x
     (unfetched (faults_in (own c.args.pass.now)) (faults_in (own c.ask_pending.new.pass)) (faults_in (own c.resume_with.new.pass))
-    (asked-told g.N.Naming.name c.args.daemon.now.id c.args.pass.now c.ask_pending.new.pass c.requires.pass c.ask_pending.ensures.same c.requires.own t c.args.entry (request_of_row w.row) (AskAnswer.Refused a.field-0-0) t.does.1)
+    (asked-told g.N.Naming.name c.args.runner.now.daemon.now.id c.args.pass.now c.ask_pending.new.pass c.requires.pass c.ask_pending.ensures.same c.requires.own t c.args.entry (request_of_row w.row) (AskAnswer.Refused a.field-0-0) t.does.1)
     c.resume_with.ensures.told)
     (omega arith)
 
@@ -119,5 +119,5 @@ returns-in-Err-clause-told g c =
     let w = c.requires.waits in
     let t = c.in-Err.ensures.turn w.row w.row_is in
     told-same (own c.args.pass.now) (own c.ask_pending.new.pass) (g.P.Shelf.faults c.args.shelf.now)
-    (ask-left g.N.Naming.name c.args.daemon.now.id c.args.pass.now c.ask_pending.new.pass c.requires.pass c.ask_pending.ensures.same c.requires.own t
+    (ask-left g.N.Naming.name c.args.runner.now.daemon.now.id c.args.pass.now c.ask_pending.new.pass c.requires.pass c.ask_pending.ensures.same c.requires.own t
     (λ (asked : Asked). Event.Ask 0 (request_of_row w.row) (Some c.args.entry) (answer_of asked)) c.in-Err.stop t.does)

@@ -25,7 +25,7 @@ returns-clause-ended g c =
     c.resume_with.ensures.ended files (AskAnswer.Hold c.args.given.blocks.count c.args.given.ticket.release) (
       note_of f.result.1,
       refl,
-      note-fetched g.N.Naming.name.facts 0 c.requires.hold.0 (Some c.args.entry) files c.args.given f.result.1 c.requires.hold.1 f.ensures.found (record {
+      note-fetched g.N.Naming.name.basis.facts 0 c.requires.hold.0 (Some c.args.entry) files c.args.given f.result.1 c.requires.hold.1 f.ensures.found (record {
         digest = f.ensures.digest;
         size = f.ensures.size;
         other_length = f.ensures.other_length;

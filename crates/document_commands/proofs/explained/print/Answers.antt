@@ -1,7 +1,7 @@
 use Rattle.std.proofs.Common.{All, List, ℕ, sym, subst}
 use Rattle.outer_traits.specs.Sinks.{Took, TookFront}
 use Rattle.first_boots.specs.FirstBoot.{IsAsMade}
-use Rattle.update_log.proofs.Starts.{no-history}
+use Rattle.update_log.proofs.Openings.{no-history}
 use Rattle.document_commands.proofs.ExplainsSo.{as_made, printed_text}
 use Rattle.document_commands.proofs.explained.print.Goals as goal
 

@@ -1,7 +1,7 @@
+use Rattle.history_keeper.specs.Signs.{signs_of}
 use Rattle.fwupd_service.specs.Plugged.{plugin_words, plugins_with}
-use Rattle.fwupd_service.specs.Worlds.{keeper_signs}
 use Rattle.fwupd_service.proofs.Completing.{run-complete}
 use Rattle.fwupd_service.proofs.laws.run_completes.Goals as goal
 
 pub returns : goal.returns
-returns g c = λ sheets vetoes. run-complete (keeper_signs g.K.Keeper.tells g.K.Keeper.doubt g.K.Keeper.faults) (plugins_with sheets vetoes (plugin_words g.Q.Plugin.own_sheet g.Q.Plugin.own_vetoes g.Q.Plugin.steps))
+returns g c = λ sheets vetoes. run-complete (signs_of g.K.Keeper.tells g.K.Keeper.doubt g.K.Keeper.faults) (plugins_with sheets vetoes (plugin_words g.Q.Plugin.own_sheet g.Q.Plugin.own_vetoes g.Q.Plugin.steps))

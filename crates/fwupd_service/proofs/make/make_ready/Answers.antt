@@ -3,6 +3,7 @@ use Rattle.client_plays.specs.Has.{shelves_told}
 use Rattle.client_plays.specs.Tools.{ShelfTold}
 use Rattle.outer_traits.specs.Plans.{MemoryFiles}
 use Rattle.fwupd_service.specs.Makes.{own_shelves, own_signs}
+use Rattle.fwupd_service.specs.Tops.{Left}
 use Rattle.fwupd_service.proofs.MakeShelves.{told-own}
 use Rattle.fwupd_service.proofs.TopLaws.{campaign-told, if-ok}
 use Rattle.fwupd_service.proofs.Unfailing.{made-went}
@@ -22,7 +23,11 @@ returns-in-Ok-outcome-clause-went g c =
     let stood = if-ok _ _ _ c.play-outcome.ensures.stand c.in-Ok-outcome.is in
     let stand = rw told at stood in
     let plans = if-ok _ _ _ c.play-outcome.ensures.plans c.in-Ok-outcome.is in
-    let left = c.summed.ensures.left in
-    rw (left.log_is, left.opening_is, left.boards_are) (inl (made-went _ _ _ _ _ _ _ out.keeper kept _ _ left.keeper_is
+    let same = c.summed.ensures.left in
+    let log : c.summed.result.log ≡ out.log = ap (λ (left : Left g.row.K.Denot). left.log) same in
+    let opening : c.summed.result.opening ≡ out.opening = ap (λ (left : Left g.row.K.Denot). left.opening) same in
+    let boards : c.summed.result.boards ≡ Some out.boards = ap (λ (left : Left g.row.K.Denot). left.boards) same in
+    let keeper : c.summed.result.keeper ≡ c.args.keeper = ap (λ (left : Left g.row.K.Denot). left.keeper) same in
+    rw (log, opening, boards) (inl (made-went _ _ _ _ _ _ _ out.keeper kept _ _ keeper
     (campaign-told own_signs _ out.ran campaign out.opening out.log out.boards [] out.keeper _
     (record { shelves = own_shelves c.args.clients; written = g.T.Sink.taken c.args.out.now }) (record { shelves = kept; written = g.T.Sink.taken c.summed.new.out }) c.summed.result.status stand plans played c.summed.ensures.reported)))

@@ -1,6 +1,6 @@
-use Rattle.update_log.specs.CoreCase.{target_with}
+use Rattle.request_verdicts.specs.Cases.{target_with}
 use Rattle.log_stories.specs.Plain.{case_over}
-use Rattle.update_log.proofs.Refusals.{by-row, by-device, by-version, by-rule, by-room}
+use Rattle.request_verdicts.proofs.Refusals.{by-row, by-device, by-version, by-rule, by-room}
 use Rattle.log_stories.proofs.plain.refusal.Goals as goal
 
 pub returns-in-Some : goal.returns-in-Some

@@ -1,5 +1,5 @@
 use Rattle.std.proofs.Common.{◌∙◌, arith}
-use Rattle.update_log.proofs.FirstSteps.{boot-next, boot-rows, cut-next, cut-rows}
+use Rattle.core_state.proofs.FirstSteps.{boot-next, boot-rows, cut-next, cut-rows}
 use Rattle.log_tests.proofs.first_steps.boot_and_cut.Goals as goal
 
 pub step-requires : goal.step-requires

@@ -32,7 +32,7 @@ run_taken-requires g c =
           gave.0 gave.1;
       no_steps = gave.1.is.no_steps;
       marks = gave.1.is.marks;
-      served = served-within g.N.Naming.name.facts gave.1.number a.taken.plugin (length c.args.plugins.now) gave.1.is.served c.requires.served;
+      served = served-within g.N.Naming.name.basis.facts gave.1.number a.taken.plugin (length c.args.plugins.now) gave.1.is.served c.requires.served;
       own = record { number = gave.1.number; board_is = gave.1.is.comes.board; served = gave.1.is.served };
     }
 
@@ -41,7 +41,7 @@ returns-in-Ok-Taken-clause-ended g c =
     let n = c.args.pass.now.number in
     let a = c.in-Ok-Taken in
     let t = a.ensures.turn in
-    λ files f. claim-behind g.N.Naming.name c.args.daemon.now.id (means_of files (steps_at (λ b. (goal.Plugin-dyn g (b.vtable, b.value)).steps b.value) c.args.plugins.now)) c.args.ticket.request c.args.pass.now c.claim.new.pass c.requires.pass c.claim.ensures.same t c.args.ticket.release (note_of c.args.fetched) a.taken.entry c.run_taken.result c.run_taken.new.pass f
+    λ files f. claim-behind g.N.Naming.name c.args.runner.now.daemon.now.id (means_of files (steps_at (λ b. (goal.Plugin-dyn g (b.vtable, b.value)).steps b.value) c.args.plugins.now)) c.args.ticket.request c.args.pass.now c.claim.new.pass c.requires.pass c.claim.ensures.same t c.args.ticket.release (note_of c.args.fetched) a.taken.entry c.run_taken.result c.run_taken.new.pass f
     (subst (λ (x : Claimed). AddsOn n (claim_event n c.args.ticket.request c.args.fetched x) t.met c.claim.new.pass.seen) a.field-0-is t.does)
     c.run_taken.ensures.room c.run_taken.ensures.ended
 
@@ -50,7 +50,7 @@ returns-in-Ok-Kept-clause-ended g c =
     let n = c.args.pass.now.number in
     let a = c.in-Ok-Kept in
     let t = a.ensures.turn in
-    λ files f. claim-ended g.N.Naming.name c.args.daemon.now.id (means_of files (steps_at (λ b. (goal.Plugin-dyn g (b.vtable, b.value)).steps b.value) c.args.plugins.now)) c.args.ticket.request c.args.pass.now c.claim.new.pass c.requires.pass c.claim.ensures.same t c.args.ticket.release (note_of c.args.fetched) (ClaimAnswer.Kept a.field-0-0 a.field-0-1)
+    λ files f. claim-ended g.N.Naming.name c.args.runner.now.daemon.now.id (means_of files (steps_at (λ b. (goal.Plugin-dyn g (b.vtable, b.value)).steps b.value) c.args.plugins.now)) c.args.ticket.request c.args.pass.now c.claim.new.pass c.requires.pass c.claim.ensures.same t c.args.ticket.release (note_of c.args.fetched) (ClaimAnswer.Kept a.field-0-0 a.field-0-1)
     (held_by c.args.ticket (block_count c.args.fetched)) f refl (λ past. refl) c.requires.held
     (subst (λ (x : Claimed). AddsOn n (claim_event n c.args.ticket.request c.args.fetched x) t.met c.claim.new.pass.seen) a.field-0-is t.does)
 
@@ -59,7 +59,7 @@ returns-in-Ok-Refused-clause-ended g c =
     let n = c.args.pass.now.number in
     let a = c.in-Ok-Refused in
     let t = a.ensures.turn in
-    λ files f. claim-ended g.N.Naming.name c.args.daemon.now.id (means_of files (steps_at (λ b. (goal.Plugin-dyn g (b.vtable, b.value)).steps b.value) c.args.plugins.now)) c.args.ticket.request c.args.pass.now c.claim.new.pass c.requires.pass c.claim.ensures.same t c.args.ticket.release (note_of c.args.fetched) (ClaimAnswer.Refused a.field-0-0)
+    λ files f. claim-ended g.N.Naming.name c.args.runner.now.daemon.now.id (means_of files (steps_at (λ b. (goal.Plugin-dyn g (b.vtable, b.value)).steps b.value) c.args.plugins.now)) c.args.ticket.request c.args.pass.now c.claim.new.pass c.requires.pass c.claim.ensures.same t c.args.ticket.release (note_of c.args.fetched) (ClaimAnswer.Refused a.field-0-0)
     (held_by c.args.ticket (block_count c.args.fetched)) f refl (λ past. refl) c.requires.held
     (subst (λ (x : Claimed). AddsOn n (claim_event n c.args.ticket.request c.args.fetched x) t.met c.claim.new.pass.seen) a.field-0-is t.does)
 
@@ -69,7 +69,7 @@ give_back-requires-clause-held g c =
     let s = c.in-Err.stopped in
     let t = c.in-Err.ensures.turn in
     held-back s c.args.ticket c.args.fetched (hold (past_seen c.claim.new.pass.seen) c.claim.new.pass.number) c.in-Err.ensures.gave.0 c.in-Err.ensures.gave.1
-    (stopped-held g.N.Naming.name c.args.daemon.now.id c.args.pass.now c.claim.new.pass c.requires.pass c.claim.ensures.same t (claim_event n c.args.ticket.request c.args.fetched) s.stop
+    (stopped-held g.N.Naming.name c.args.runner.now.daemon.now.id c.args.pass.now c.claim.new.pass c.requires.pass c.claim.ensures.same t (claim_event n c.args.ticket.request c.args.fetched) s.stop
     (held_by c.args.ticket (block_count c.args.fetched)) c.requires.held t.does)
 
 pub give_back-requires-clause-halted : goal.give_back-requires-clause-halted
@@ -82,8 +82,8 @@ returns-in-Err-clause-ended g c =
     let n = c.args.pass.now.number in
     let s = c.in-Err.stopped in
     let t = c.in-Err.ensures.turn in
-    λ files f. claim-stopped g.N.Naming.name.facts g.N.Naming.name.opening (means_of files (steps_at (λ b. (goal.Plugin-dyn g (b.vtable, b.value)).steps b.value) c.args.plugins.now)) s c.args.ticket c.args.fetched c.give_back.result c.args.pass.now c.claim.new.pass c.give_back.new.pass c.in-Err.ensures.gave.0 c.in-Err.ensures.gave.1
-    (stopped-own g.N.Naming.name c.args.daemon.now.id c.args.pass.now c.claim.new.pass c.requires.pass c.claim.ensures.same t (claim_event n c.args.ticket.request c.args.fetched) s.stop t.does)
+    λ files f. claim-stopped g.N.Naming.name.basis (means_of files (steps_at (λ b. (goal.Plugin-dyn g (b.vtable, b.value)).steps b.value) c.args.plugins.now)) s c.args.ticket c.args.fetched c.give_back.result c.args.pass.now c.claim.new.pass c.give_back.new.pass c.in-Err.ensures.gave.0 c.in-Err.ensures.gave.1
+    (stopped-own g.N.Naming.name c.args.runner.now.daemon.now.id c.args.pass.now c.claim.new.pass c.requires.pass c.claim.ensures.same t (claim_event n c.args.ticket.request c.args.fetched) s.stop t.does)
     c.claim.ensures.same f (λ is. c.give_back.ensures.ended files is)
 
 pub returns-in-Ok-Taken-clause-told : goal.returns-in-Ok-Taken-clause-told
@@ -92,8 +92,8 @@ returns-in-Ok-Taken-clause-told g c =
     let a = c.in-Ok-Taken in
     let t = a.ensures.turn in
     let note = note_of c.args.fetched in
-    claim-taken g.N.Naming.name.facts g.N.Naming.name.opening (steps_at (λ b. (goal.Plugin-dyn g (b.vtable, b.value)).steps b.value) c.args.plugins.now) (past_seen c.claim.new.pass.seen) (faults_noted (Some note)) a.taken.entry c.run_taken.result c.args.pass.now c.claim.new.pass c.run_taken.new.pass
-    (turn-claim g.N.Naming.name c.args.daemon.now.id c.args.pass.now c.claim.new.pass c.requires.pass c.claim.ensures.same t c.args.ticket.request note (ClaimAnswer.Entry a.taken.entry)
+    claim-taken g.N.Naming.name.basis (steps_at (λ b. (goal.Plugin-dyn g (b.vtable, b.value)).steps b.value) c.args.plugins.now) (past_seen c.claim.new.pass.seen) (faults_noted (Some note)) a.taken.entry c.run_taken.result c.args.pass.now c.claim.new.pass c.run_taken.new.pass
+    (turn-claim g.N.Naming.name c.args.runner.now.daemon.now.id c.args.pass.now c.claim.new.pass c.requires.pass c.claim.ensures.same t c.args.ticket.request note (ClaimAnswer.Entry a.taken.entry)
     (subst (λ (x : Claimed). AddsOn n (claim_event n c.args.ticket.request c.args.fetched x) t.met c.claim.new.pass.seen) a.field-0-is t.does).1)
     c.run_taken.ensures.ended
 
@@ -104,7 +104,7 @@ returns-in-Ok-Kept-clause-told g c =
     let t = a.ensures.turn in
     let note = note_of c.args.fetched in
     claim-same (faults_noted (Some note)) c.args.pass.now c.claim.new.pass
-    (turn-claim g.N.Naming.name c.args.daemon.now.id c.args.pass.now c.claim.new.pass c.requires.pass c.claim.ensures.same t c.args.ticket.request note (ClaimAnswer.Kept a.field-0-0 a.field-0-1)
+    (turn-claim g.N.Naming.name c.args.runner.now.daemon.now.id c.args.pass.now c.claim.new.pass c.requires.pass c.claim.ensures.same t c.args.ticket.request note (ClaimAnswer.Kept a.field-0-0 a.field-0-1)
     (subst (λ (x : Claimed). AddsOn n (claim_event n c.args.ticket.request c.args.fetched x) t.met c.claim.new.pass.seen) a.field-0-is t.does).1)
 
 pub returns-in-Ok-Refused-clause-told : goal.returns-in-Ok-Refused-clause-told
@@ -114,7 +114,7 @@ returns-in-Ok-Refused-clause-told g c =
     let t = a.ensures.turn in
     let note = note_of c.args.fetched in
     claim-same (faults_noted (Some note)) c.args.pass.now c.claim.new.pass
-    (turn-claim g.N.Naming.name c.args.daemon.now.id c.args.pass.now c.claim.new.pass c.requires.pass c.claim.ensures.same t c.args.ticket.request note (ClaimAnswer.Refused a.field-0-0)
+    (turn-claim g.N.Naming.name c.args.runner.now.daemon.now.id c.args.pass.now c.claim.new.pass c.requires.pass c.claim.ensures.same t c.args.ticket.request note (ClaimAnswer.Refused a.field-0-0)
     (subst (λ (x : Claimed). AddsOn n (claim_event n c.args.ticket.request c.args.fetched x) t.met c.claim.new.pass.seen) a.field-0-is t.does).1)
 
 pub returns-in-Err-clause-told : goal.returns-in-Err-clause-told
@@ -122,5 +122,5 @@ returns-in-Err-clause-told g c =
     let n = c.args.pass.now.number in
     let t = c.in-Err.ensures.turn in
     claim-none (faults_noted (Some (note_of c.args.fetched))) c.args.pass.now c.claim.new.pass c.give_back.new.pass
-    (turn-stopped g.N.Naming.name c.args.daemon.now.id c.args.pass.now c.claim.new.pass c.requires.pass c.claim.ensures.same t (claim_event n c.args.ticket.request c.args.fetched) c.in-Err.stopped.stop t.does)
+    (turn-stopped g.N.Naming.name c.args.runner.now.daemon.now.id c.args.pass.now c.claim.new.pass c.requires.pass c.claim.ensures.same t (claim_event n c.args.ticket.request c.args.fetched) c.in-Err.stopped.stop t.does)
     c.give_back.ensures.told

@@ -29,16 +29,16 @@ claim_fetched-requires-clause-asked g c = ap (λ (t : Ticket). t.pending) c.fetc
 pub claim_fetched-requires-clause-whole : goal.claim_fetched-requires-clause-whole
 claim_fetched-requires-clause-whole g c =
     let f = c.fetch-ticket in
-    fetched-whole g.N.Naming.name.facts c.args.pass.now.number c.args.given.ticket.request None c.args.given f.result.0 f.result.1 c.requires.hold f.ensures.ticket f.ensures.digest f.ensures.size
+    fetched-whole g.N.Naming.name.basis.facts c.args.pass.now.number c.args.given.ticket.request None c.args.given f.result.0 f.result.1 c.requires.hold f.ensures.ticket f.ensures.digest f.ensures.size
 
 pub returns-clause-ended : goal.returns-clause-ended
 returns-clause-ended g c =
     let f = c.fetch-ticket in
     let files = g.P.Shelf.files c.args.shelf.now in
-    subst (λ (t : Ticket). Ended c.claim_fetched.result (ClaimPlays g.N.Naming.name.facts g.N.Naming.name.opening (means_of files (steps_at (λ b. (goal.Plugin-dyn g (b.vtable, b.value)).steps b.value) c.args.plugins.now)) c.args.pass.now.number t.request t.release) c.args.pass.now c.claim_fetched.new.pass) f.ensures.ticket
+    subst (λ (t : Ticket). Ended c.claim_fetched.result (ClaimPlays g.N.Naming.name.basis (means_of files (steps_at (λ b. (goal.Plugin-dyn g (b.vtable, b.value)).steps b.value) c.args.plugins.now)) c.args.pass.now.number t.request t.release) c.args.pass.now c.claim_fetched.new.pass) f.ensures.ticket
     (c.claim_fetched.ensures.ended files
-    (subst (λ (t : Ticket). IsFetched g.N.Naming.name.facts files t.release (note_of f.result.1)) (sym f.ensures.ticket)
-    (note-fetched g.N.Naming.name.facts c.args.pass.now.number c.args.given.ticket.request None files c.args.given f.result.1 c.requires.hold f.ensures.found (record {
+    (subst (λ (t : Ticket). IsFetched g.N.Naming.name.basis.facts files t.release (note_of f.result.1)) (sym f.ensures.ticket)
+    (note-fetched g.N.Naming.name.basis.facts c.args.pass.now.number c.args.given.ticket.request None files c.args.given f.result.1 c.requires.hold f.ensures.found (record {
       digest = f.ensures.digest;
       size = f.ensures.size;
       other_length = f.ensures.other_length;

@@ -22,24 +22,24 @@ install_held-requires-clause-held g c =
     let n = c.args.pass.now.number in
     let a = c.in-Ok-Held in
     let t = a.ensures.turn in
-    ask-holds g.N.Naming.name c.args.daemon.now.id c.args.pass.now c.ask.new.pass c.requires.pass c.ask.ensures.same t c.args.request.now a.given
-    (subst (λ (x : Asked). HoldsFor g.N.Naming.name.facts n c.args.request.now None x) a.field-0-is a.ensures.holds)
+    ask-holds g.N.Naming.name c.args.runner.now.daemon.now.id c.args.pass.now c.ask.new.pass c.requires.pass c.ask.ensures.same t c.args.request.now a.given
+    (subst (λ (x : Asked). HoldsFor g.N.Naming.name.basis.facts n c.args.request.now None x) a.field-0-is a.ensures.holds)
     (subst (λ (x : Asked). AddsOn n (Event.Ask n c.args.request.now None (answer_of x)) t.met c.ask.new.pass.seen) a.field-0-is t.does)
 
 pub install_held-requires-clause-hold : goal.install_held-requires-clause-hold
 install_held-requires-clause-hold g c =
     let n = c.args.pass.now.number in
     let a = c.in-Ok-Held in
-    hold-self g.N.Naming.name.facts n c.ask.new.pass.number c.args.request.now a.given c.ask.ensures.same
-    (subst (λ (x : Asked). HoldsFor g.N.Naming.name.facts n c.args.request.now None x) a.field-0-is a.ensures.holds)
+    hold-self g.N.Naming.name.basis.facts n c.ask.new.pass.number c.args.request.now a.given c.ask.ensures.same
+    (subst (λ (x : Asked). HoldsFor g.N.Naming.name.basis.facts n c.args.request.now None x) a.field-0-is a.ensures.holds)
 
 pub returns-in-Ok-Held-clause-ended : goal.returns-in-Ok-Held-clause-ended
 returns-in-Ok-Held-clause-ended g c =
     let n = c.args.pass.now.number in
     let a = c.in-Ok-Held in
     let t = a.ensures.turn in
-    let h = subst (λ (x : Asked). HoldsFor g.N.Naming.name.facts n c.args.request.now None x) a.field-0-is a.ensures.holds in
-    install-behind g.N.Naming.name c.args.daemon.now.id (means_of (g.P.Shelf.files c.args.shelf.now) (steps_at (λ b. (goal.Plugin-dyn g (b.vtable, b.value)).steps b.value) c.args.plugins.now)) c.args.request.now c.args.pass.now c.ask.new.pass c.requires.pass c.ask.ensures.same t g.N.Naming.name.opening c.requires.online a.given c.install_held.result
+    let h = subst (λ (x : Asked). HoldsFor g.N.Naming.name.basis.facts n c.args.request.now None x) a.field-0-is a.ensures.holds in
+    install-behind g.N.Naming.name c.args.runner.now.daemon.now.id (means_of (g.P.Shelf.files c.args.shelf.now) (steps_at (λ b. (goal.Plugin-dyn g (b.vtable, b.value)).steps b.value) c.args.plugins.now)) c.args.request.now c.args.pass.now c.ask.new.pass c.requires.pass c.ask.ensures.same t g.N.Naming.name.basis.opening c.requires.online a.given c.install_held.result
     c.install_held.new.pass h.request_is
     (subst (λ (x : Asked). AddsOn n (Event.Ask n c.args.request.now None (answer_of x)) t.met c.ask.new.pass.seen) a.field-0-is t.does)
     c.install_held.ensures.ended
@@ -49,7 +49,7 @@ returns-in-Ok-Kept-clause-ended g c =
     let n = c.args.pass.now.number in
     let a = c.in-Ok-Kept in
     let t = a.ensures.turn in
-    install-asked g.N.Naming.name c.args.daemon.now.id (means_of (g.P.Shelf.files c.args.shelf.now) (steps_at (λ b. (goal.Plugin-dyn g (b.vtable, b.value)).steps b.value) c.args.plugins.now)) c.args.request.now c.args.pass.now c.ask.new.pass c.requires.pass c.ask.ensures.same t g.N.Naming.name.opening c.requires.online (AskAnswer.Kept a.field-0-0 a.field-0-1) refl
+    install-asked g.N.Naming.name c.args.runner.now.daemon.now.id (means_of (g.P.Shelf.files c.args.shelf.now) (steps_at (λ b. (goal.Plugin-dyn g (b.vtable, b.value)).steps b.value) c.args.plugins.now)) c.args.request.now c.args.pass.now c.ask.new.pass c.requires.pass c.ask.ensures.same t g.N.Naming.name.basis.opening c.requires.online (AskAnswer.Kept a.field-0-0 a.field-0-1) refl
     (λ past. refl) c.requires.free
     (subst (λ (x : Asked). AddsOn n (Event.Ask n c.args.request.now None (answer_of x)) t.met c.ask.new.pass.seen) a.field-0-is t.does)
 
@@ -58,7 +58,7 @@ returns-in-Ok-Refused-clause-ended g c =
     let n = c.args.pass.now.number in
     let a = c.in-Ok-Refused in
     let t = a.ensures.turn in
-    install-asked g.N.Naming.name c.args.daemon.now.id (means_of (g.P.Shelf.files c.args.shelf.now) (steps_at (λ b. (goal.Plugin-dyn g (b.vtable, b.value)).steps b.value) c.args.plugins.now)) c.args.request.now c.args.pass.now c.ask.new.pass c.requires.pass c.ask.ensures.same t g.N.Naming.name.opening c.requires.online (AskAnswer.Refused a.field-0-0) refl
+    install-asked g.N.Naming.name c.args.runner.now.daemon.now.id (means_of (g.P.Shelf.files c.args.shelf.now) (steps_at (λ b. (goal.Plugin-dyn g (b.vtable, b.value)).steps b.value) c.args.plugins.now)) c.args.request.now c.args.pass.now c.ask.new.pass c.requires.pass c.ask.ensures.same t g.N.Naming.name.basis.opening c.requires.online (AskAnswer.Refused a.field-0-0) refl
     (λ past. refl) c.requires.free
     (subst (λ (x : Asked). AddsOn n (Event.Ask n c.args.request.now None (answer_of x)) t.met c.ask.new.pass.seen) a.field-0-is t.does)
 
@@ -66,8 +66,8 @@ pub returns-in-Err-clause-ended : goal.returns-in-Err-clause-ended
 returns-in-Err-clause-ended g c =
     let n = c.args.pass.now.number in
     let t = c.in-Err.ensures.turn in
-    subst (λ (x : Played). Ended x (Plays g.N.Naming.name.facts g.N.Naming.name.opening (means_of (g.P.Shelf.files c.args.shelf.now) (steps_at (λ b. (goal.Plugin-dyn g (b.vtable, b.value)).steps b.value) c.args.plugins.now)) n (Item.Install c.args.request.now)) c.args.pass.now c.ask.new.pass) (sym c.stopped_by.ensures)
-    (install-stopped g.N.Naming.name c.args.daemon.now.id (means_of (g.P.Shelf.files c.args.shelf.now) (steps_at (λ b. (goal.Plugin-dyn g (b.vtable, b.value)).steps b.value) c.args.plugins.now)) c.args.request.now c.args.pass.now c.ask.new.pass c.requires.pass c.ask.ensures.same t g.N.Naming.name.opening c.requires.online
+    subst (λ (x : Played). Ended x (Plays g.N.Naming.name.basis (means_of (g.P.Shelf.files c.args.shelf.now) (steps_at (λ b. (goal.Plugin-dyn g (b.vtable, b.value)).steps b.value) c.args.plugins.now)) n (Item.Install c.args.request.now)) c.args.pass.now c.ask.new.pass) (sym c.stopped_by.ensures)
+    (install-stopped g.N.Naming.name c.args.runner.now.daemon.now.id (means_of (g.P.Shelf.files c.args.shelf.now) (steps_at (λ b. (goal.Plugin-dyn g (b.vtable, b.value)).steps b.value) c.args.plugins.now)) c.args.request.now c.args.pass.now c.ask.new.pass c.requires.pass c.ask.ensures.same t g.N.Naming.name.basis.opening c.requires.online
     (λ (asked : Asked). Event.Ask n c.args.request.now None (answer_of asked)) c.in-Err.stop c.requires.free t.does)
 
 pub returns-in-Ok-Held-clause-told : goal.returns-in-Ok-Held-clause-told
@@ -76,7 +76,7 @@ returns-in-Ok-Held-clause-told g c =
     let a = c.in-Ok-Held in
     let t = a.ensures.turn in
     told-behind (own c.args.pass.now) (own c.ask.new.pass) (own c.install_held.new.pass) (g.P.Shelf.faults c.args.shelf.now) (g.P.Shelf.faults c.install_held.new.shelf)
-    (turn-quiet g.N.Naming.name c.args.daemon.now.id c.args.pass.now c.ask.new.pass c.requires.pass c.ask.ensures.same t (Event.Ask n c.args.request.now None (answer_of (Asked.Held a.given))) refl refl refl
+    (turn-quiet g.N.Naming.name c.args.runner.now.daemon.now.id c.args.pass.now c.ask.new.pass c.requires.pass c.ask.ensures.same t (Event.Ask n c.args.request.now None (answer_of (Asked.Held a.given))) refl refl refl
     (subst (λ (x : Asked). AddsOn n (Event.Ask n c.args.request.now None (answer_of x)) t.met c.ask.new.pass.seen) a.field-0-is t.does).1)
     c.install_held.ensures.told c.install_held.ensures.counts
 
@@ -86,7 +86,7 @@ returns-in-Ok-Kept-clause-told g c =
     let a = c.in-Ok-Kept in
     let t = a.ensures.turn in
     told-same (own c.args.pass.now) (own c.ask.new.pass) (g.P.Shelf.faults c.args.shelf.now)
-    (turn-quiet g.N.Naming.name c.args.daemon.now.id c.args.pass.now c.ask.new.pass c.requires.pass c.ask.ensures.same t (Event.Ask n c.args.request.now None (AskAnswer.Kept a.field-0-0 a.field-0-1)) refl refl refl
+    (turn-quiet g.N.Naming.name c.args.runner.now.daemon.now.id c.args.pass.now c.ask.new.pass c.requires.pass c.ask.ensures.same t (Event.Ask n c.args.request.now None (AskAnswer.Kept a.field-0-0 a.field-0-1)) refl refl refl
     (subst (λ (x : Asked). AddsOn n (Event.Ask n c.args.request.now None (answer_of x)) t.met c.ask.new.pass.seen) a.field-0-is t.does).1)
 
 pub returns-in-Ok-Refused-clause-told : goal.returns-in-Ok-Refused-clause-told
@@ -95,7 +95,7 @@ returns-in-Ok-Refused-clause-told g c =
     let a = c.in-Ok-Refused in
     let t = a.ensures.turn in
     told-same (own c.args.pass.now) (own c.ask.new.pass) (g.P.Shelf.faults c.args.shelf.now)
-    (turn-quiet g.N.Naming.name c.args.daemon.now.id c.args.pass.now c.ask.new.pass c.requires.pass c.ask.ensures.same t (Event.Ask n c.args.request.now None (AskAnswer.Refused a.field-0-0)) refl refl refl
+    (turn-quiet g.N.Naming.name c.args.runner.now.daemon.now.id c.args.pass.now c.ask.new.pass c.requires.pass c.ask.ensures.same t (Event.Ask n c.args.request.now None (AskAnswer.Refused a.field-0-0)) refl refl refl
     (subst (λ (x : Asked). AddsOn n (Event.Ask n c.args.request.now None (answer_of x)) t.met c.ask.new.pass.seen) a.field-0-is t.does).1)
 
 pub returns-in-Err-clause-told : goal.returns-in-Err-clause-told
@@ -103,4 +103,4 @@ returns-in-Err-clause-told g c =
     let n = c.args.pass.now.number in
     let t = c.in-Err.ensures.turn in
     told-same (own c.args.pass.now) (own c.ask.new.pass) (g.P.Shelf.faults c.args.shelf.now)
-    (turn-stopped g.N.Naming.name c.args.daemon.now.id c.args.pass.now c.ask.new.pass c.requires.pass c.ask.ensures.same t (λ (asked : Asked). Event.Ask n c.args.request.now None (answer_of asked)) c.in-Err.stop t.does)
+    (turn-stopped g.N.Naming.name c.args.runner.now.daemon.now.id c.args.pass.now c.ask.new.pass c.requires.pass c.ask.ensures.same t (λ (asked : Asked). Event.Ask n c.args.request.now None (answer_of asked)) c.in-Err.stop t.does)

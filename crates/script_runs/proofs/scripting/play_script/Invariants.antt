@@ -9,8 +9,8 @@ use Rattle.script_runs.proofs.scripting.play_script.Given as goal
 
 abbrev pub invariant-loop-item : goal.invariant-loop-item
 invariant-loop-item g l = record {
-  pass : IsPass l.daemon.id g.N.Naming.name l.pass;
-  so_far : SoFar l.wanting (Plays g.N.Naming.name.facts g.N.Naming.name.opening (means_of (g.P.Shelf.files l.initial.shelf) (steps_at (λ b. (goal.Plugin-dyn g (b.vtable, b.value)).steps b.value) l.plugins)) l.initial.pass.number)
+  pass : IsPass l.runner.daemon.now.id g.N.Naming.name l.pass;
+  so_far : SoFar l.wanting (Plays g.N.Naming.name.basis (means_of (g.P.Shelf.files l.initial.shelf) (steps_at (λ b. (goal.Plugin-dyn g (b.vtable, b.value)).steps b.value) l.plugins)) l.initial.pass.number)
       (take l.item-index l.items) l.initial.pass l.pass;
   files : g.P.Shelf.files l.shelf ≡ g.P.Shelf.files l.initial.shelf;
   counts : g.P.Shelf.faults l.initial.shelf ≤ g.P.Shelf.faults l.shelf;

@@ -22,7 +22,7 @@ returns-clause-held g c =
     let t = c.in-Ok-Held.ensures.turn w.row w.row_is in
     let r : Request = request_of_row w.row in
     hold-asked g.N.Naming.name 0 r (Some c.args.entry) c.in-Ok-Held.hold t.met c.ask_pending.new.pass.seen
-    (subst (λ (a : Asked). HoldsFor g.N.Naming.name.facts 0 r (Some c.args.entry) a) c.in-Ok-Held.field-0-is (c.in-Ok-Held.ensures.holds w.row w.row_is))
+    (subst (λ (a : Asked). HoldsFor g.N.Naming.name.basis.facts 0 r (Some c.args.entry) a) c.in-Ok-Held.field-0-is (c.in-Ok-Held.ensures.holds w.row w.row_is))
     (subst (λ (a : Asked). Adds 0 (Event.Ask 0 r (Some c.args.entry) (answer_of a)) t.met c.ask_pending.new.pass.seen) c.in-Ok-Held.field-0-is t.does.1)
 
 pub returns-clause-hold : goal.returns-clause-hold
@@ -30,5 +30,5 @@ returns-clause-hold g c =
     let w = c.requires.waits in
     let r : Request = request_of_row w.row in (
       r,
-      subst (λ (a : Asked). HoldsFor g.N.Naming.name.facts 0 r (Some c.args.entry) a) c.in-Ok-Held.field-0-is (c.in-Ok-Held.ensures.holds w.row w.row_is),
+      subst (λ (a : Asked). HoldsFor g.N.Naming.name.basis.facts 0 r (Some c.args.entry) a) c.in-Ok-Held.field-0-is (c.in-Ok-Held.ensures.holds w.row w.row_is),
     )

@@ -3,4 +3,4 @@ use Rattle.update_log.proofs.HistoryKept.{rows-history}
 use Rattle.update_log.proofs.laws.history_stays.Goals as goal
 
 pub returns : goal.returns
-returns g = λ c opening log valid legal. rows-history c opening (past_of log) valid legal
+returns g = λ c log valid legal. rows-history c (past_of log) valid legal

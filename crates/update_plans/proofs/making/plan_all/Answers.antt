@@ -1,6 +1,7 @@
 use Rattle.std.proofs.Common.{◌≡◌, ℕ, List, length, map, sym, ap, ◌∙◌, subst}
 use Rattle.fw_facts.specs.declared.view.DeviceView.{DeviceView}
 use Rattle.update_log.specs.Pasts.{past_of}
+use Rattle.update_log.specs.Known.{basis_of}
 use Rattle.update_plans.specs.Plans.{chains, device_at, scene}
 use Rattle.update_plans.specs.declared.plan.PlanStep.{PlanStep}
 use Rattle.update_plans.specs.Walks.{walk}
@@ -16,7 +17,7 @@ plan_places-requires g c =
 
 pub returns : goal.returns
 returns g c =
-    let s = scene c.args.asker.now.facts.now g.opening c.args.asker.now.client c.args.asker.now.tag.now in
+    let s = scene (basis_of c.args.asker.now.facts.now g.opening) c.args.asker.now.client c.args.asker.now.tag.now in
     let before = past_of c.args.state.now.log in
     let walked = c.deref.ensures.value ∙ c.in_ok-places.ensures ∙ ap walk c.views.ensures in
     subst (λ (planned : List PlanStep). IfOk c.plan_places.result (λ steps. steps.items ≡ planned))

@@ -4,6 +4,7 @@ use Rattle.fw_facts.specs.declared.view.DeviceView.{DeviceView}
 use Rattle.fw_facts.specs.Views.{guids_of}
 use Rattle.release_catalogue.specs.declared.reference.ReleaseRef.{ReleaseRef}
 use Rattle.update_log.specs.Pasts.{past_of}
+use Rattle.update_log.specs.Known.{basis_of}
 use Rattle.update_plans.specs.Choosing.{IsHighestFirst}
 use Rattle.update_plans.specs.Following.{IsQuiet}
 use Rattle.update_plans.specs.Plans.{after, chain, device_at, next_step, scene}
@@ -15,7 +16,7 @@ use Rattle.update_plans.proofs.making.plan_device.Goals as goal
 
 pub next_step-requires : goal.next_step-requires
 next_step-requires g c =
-    let s = scene c.args.asker.now.facts.now g.opening c.args.asker.now.client c.args.asker.now.tag.now in
+    let s = scene (basis_of c.args.asker.now.facts.now g.opening) c.args.asker.now.client c.args.asker.now.tag.now in
     let i = c.loop-taken.invariant in
     let same = places-kept s c.args.state.now c.loop-taken.state c.args.at c.requires.1.1.1.0 i.stands in
     record {
@@ -23,30 +24,30 @@ next_step-requires g c =
       tag = c.requires.1.0;
       number = omega (arith, c.loop-taken-test.true);
       releases =
-          subst (λ (places : List ReleaseRef). IfSome (slice_get c.loop-taken.state.views c.args.at) (λ view. IsHighestFirst s.facts (guids_of view) places)) (sym c.deref.ensures.value) i.sorted;
+          subst (λ (places : List ReleaseRef). IfSome (slice_get c.loop-taken.state.views c.args.at) (λ view. IsHighestFirst s.basis.facts (guids_of view) places)) (sym c.deref.ensures.value) i.sorted;
     }
 
 pub take_step-requires : goal.take_step-requires
 take_step-requires g c =
-    let s = scene c.args.asker.now.facts.now g.opening c.args.asker.now.client c.args.asker.now.tag.now in
+    let s = scene (basis_of c.args.asker.now.facts.now g.opening) c.args.asker.now.client c.args.asker.now.tag.now in
     let i = c.loop-taken.invariant in
     let same = places-kept s c.args.state.now c.loop-taken.state c.args.at c.requires.1.1.1.0 i.stands in
     (omega (arith, same, c.requires.0), (c.requires.1.0, (omega (arith, c.loop-taken-test.true), (i.stands, (i.quiet, (next-good s (c.loop-taken.taken + 1) (device_at c.loop-taken.state.views c.args.at) (past_of c.loop-taken.state.log) c.in-Some.step (sym (c.in-Some.ensures g.opening i.stands i.quiet)), (i.sorted)))))))
 
 pub loop-taken-init : goal.loop-taken-init
 loop-taken-init g c =
-    let s = scene c.args.asker.now.facts.now g.opening c.args.asker.now.client c.args.asker.now.tag.now in
+    let s = scene (basis_of c.args.asker.now.facts.now g.opening) c.args.asker.now.client c.args.asker.now.tag.now in
     record {
       goes = goes-first s (device_at c.args.state.now.views c.args.at) c.args.steps.now.items (past_of c.args.state.now.log);
       taken = omega (arith, c.args.steps.now.ok.0);
       stands = c.requires.1.1.1.0;
       quiet = c.requires.1.1.1.1;
-      sorted = subst (λ (o : Option DeviceView). IfSome o (λ view. IsHighestFirst s.facts (guids_of view) c.in_ok-releases.releases.items)) (sym c.device.ensures) c.in_ok-releases.ensures;
+      sorted = subst (λ (o : Option DeviceView). IfSome o (λ view. IsHighestFirst s.basis.facts (guids_of view) c.in_ok-releases.releases.items)) (sym c.device.ensures) c.in_ok-releases.ensures;
     }
 
 pub loop-taken-preserved : goal.loop-taken-preserved
 loop-taken-preserved g c =
-    let s = scene c.args.asker.now.facts.now g.opening c.args.asker.now.client c.args.asker.now.tag.now in
+    let s = scene (basis_of c.args.asker.now.facts.now g.opening) c.args.asker.now.client c.args.asker.now.tag.now in
     let i = c.loop-taken.invariant in
     let device = device_at c.args.state.now.views c.args.at in
     let own = chain s device (8192 - length c.args.steps.now.items) (length c.args.steps.now.items + 1) (past_of c.args.state.now.log) in
@@ -69,7 +70,7 @@ loop-taken-preserved g c =
 
 pub returns-in-None-clause-steps : goal.returns-in-None-clause-steps
 returns-in-None-clause-steps g c =
-    let s = scene c.args.asker.now.facts.now g.opening c.args.asker.now.client c.args.asker.now.tag.now in
+    let s = scene (basis_of c.args.asker.now.facts.now g.opening) c.args.asker.now.client c.args.asker.now.tag.now in
     let i = c.loop-taken.invariant in
     let device = device_at c.args.state.now.views c.args.at in
     let own = chain s device (8192 - length c.args.steps.now.items) (length c.args.steps.now.items + 1) (past_of c.args.state.now.log) in
@@ -83,7 +84,7 @@ returns-in-None-clause-steps g c =
 
 pub returns-in-None-clause-past : goal.returns-in-None-clause-past
 returns-in-None-clause-past g c =
-    let s = scene c.args.asker.now.facts.now g.opening c.args.asker.now.client c.args.asker.now.tag.now in
+    let s = scene (basis_of c.args.asker.now.facts.now g.opening) c.args.asker.now.client c.args.asker.now.tag.now in
     let i = c.loop-taken.invariant in
     let device = device_at c.args.state.now.views c.args.at in
     let own = chain s device (8192 - length c.args.steps.now.items) (length c.args.steps.now.items + 1) (past_of c.args.state.now.log) in
@@ -97,7 +98,7 @@ returns-in-None-clause-past g c =
 
 pub returns-clause-steps : goal.returns-clause-steps
 returns-clause-steps g c =
-    let s = scene c.args.asker.now.facts.now g.opening c.args.asker.now.client c.args.asker.now.tag.now in
+    let s = scene (basis_of c.args.asker.now.facts.now g.opening) c.args.asker.now.client c.args.asker.now.tag.now in
     let i = c.loop-taken.invariant in
     let device = device_at c.args.state.now.views c.args.at in
     let own = chain s device (8192 - length c.args.steps.now.items) (length c.args.steps.now.items + 1) (past_of c.args.state.now.log) in
@@ -108,7 +109,7 @@ returns-clause-steps g c =
 
 pub returns-clause-past : goal.returns-clause-past
 returns-clause-past g c =
-    let s = scene c.args.asker.now.facts.now g.opening c.args.asker.now.client c.args.asker.now.tag.now in
+    let s = scene (basis_of c.args.asker.now.facts.now g.opening) c.args.asker.now.client c.args.asker.now.tag.now in
     let i = c.loop-taken.invariant in
     let device = device_at c.args.state.now.views c.args.at in
     let own = chain s device (8192 - length c.args.steps.now.items) (length c.args.steps.now.items + 1) (past_of c.args.state.now.log) in

@@ -1,6 +1,7 @@
 use Rattle.std.proofs.Common.{◌≡◌, ◌+◌, ◌-◌, ◌++◌, ℕ, List, [], length, map, get_or, sym, ap, ◌∙◌, arith, take}
 use Rattle.std.proofs.lemmas.List.{take_all}
 use Rattle.update_log.specs.Pasts.{past_of}
+use Rattle.update_log.specs.Known.{basis_of}
 use Rattle.update_plans.specs.Plans.{after, chain, chains, device_at, scene}
 use Rattle.update_plans.specs.declared.plan.PlanStep.{PlanStep}
 use Rattle.update_plans.proofs.Taking.{after-nil, below-at, chains-nil, device-kept, mapped-more, places-kept, turn-after, turn-chains}
@@ -8,7 +9,7 @@ use Rattle.update_plans.proofs.making.plan_places.Goals as goal
 
 pub plan_device-requires : goal.plan_device-requires
 plan_device-requires g c =
-    let s = scene c.args.asker.now.facts.now g.opening c.args.asker.now.client c.args.asker.now.tag.now in
+    let s = scene (basis_of c.args.asker.now.facts.now g.opening) c.args.asker.now.client c.args.asker.now.tag.now in
     let i = c.loop-at.invariant in
     let below = below-at (length c.args.state.now.views) c.args.places.now c.loop-at.at-index c.requires.1.0 c.loop-at-test.true in
     let same = places-kept s c.args.state.now c.loop-at.state 0 c.requires.1.1.0 i.stands in
@@ -16,7 +17,7 @@ plan_device-requires g c =
 
 pub loop-at-init : goal.loop-at-init
 loop-at-init g c =
-    let s = scene c.args.asker.now.facts.now g.opening c.args.asker.now.client c.args.asker.now.tag.now in
+    let s = scene (basis_of c.args.asker.now.facts.now g.opening) c.args.asker.now.client c.args.asker.now.tag.now in
     let none : c.new-steps.result.items ≡ [] = c.new-steps.ensures.items in
     let few : length c.new-steps.result.items ≡ 0 = ap (λ (xs : List PlanStep). length xs) none in
     record {
@@ -29,7 +30,7 @@ loop-at-init g c =
 
 pub loop-at-preserved : goal.loop-at-preserved
 loop-at-preserved g c =
-    let s = scene c.args.asker.now.facts.now g.opening c.args.asker.now.client c.args.asker.now.tag.now in
+    let s = scene (basis_of c.args.asker.now.facts.now g.opening) c.args.asker.now.client c.args.asker.now.tag.now in
     let i = c.loop-at.invariant in
     let before = past_of c.args.state.now.log in
     let at = get_or c.args.places.now c.loop-at.at-index 0 in
@@ -53,6 +54,6 @@ loop-at-preserved g c =
 
 pub returns : goal.returns
 returns g c =
-    let s = scene c.args.asker.now.facts.now g.opening c.args.asker.now.client c.args.asker.now.tag.now in
+    let s = scene (basis_of c.args.asker.now.facts.now g.opening) c.args.asker.now.client c.args.asker.now.tag.now in
     c.loop-at.invariant.steps_are
     ∙ ap (λ (places : List ℕ). chains s (map (device_at c.args.state.now.views) places) 8192 1 (past_of c.args.state.now.log)) (take_all c.loop-at.at-index c.args.places.now (omega (arith, c.loop-at-test.false)))

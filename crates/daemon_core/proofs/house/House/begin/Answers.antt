@@ -1,7 +1,7 @@
 use Rattle.std.proofs.Common.{◌≡◌, true, ap, sym, subst}
 use Rattle.update_log.specs.declared.event.Event.{Event}
 use Rattle.update_log.specs.Legal.{StartAllowed}
-use Rattle.daemon_core.specs.Housed.{HouseLogView, Housed, past_in, rows_before}
+use Rattle.daemon_core.specs.Housed.{basis_in, HouseLogView, Housed, past_in}
 use Rattle.daemon_core.proofs.ClaimHouse.{IsReady, house-started, start-ready}
 use Rattle.daemon_core.proofs.house.House.begin.Goals as goal
 use Rattle.daemon_core.proofs.house.House.begin.Given.{Over}
@@ -26,8 +26,8 @@ note-requires-clause-row g c = (ready g c).row
 pub invariant_of-self : goal.invariant_of-self
 invariant_of-self g c =
     let same : c.self.inside.house_log ≡ c.args.self.now.house_log = ap (λ (h : Housed g.row.K.Denot). h.house_log) c.self.view_is in
-    house-started _ _ c.args.client c.args.entry c.args.op c.requires.next.0
+    house-started _ c.args.client c.args.entry c.args.op c.requires.next.0
     (record { house_log = c.self.inside.house_log; places = c.self.inside.places.items; pool = c.self.inside.pool; keeper = c.self.inside.keeper })
     c.note.new.self c.self.invariant c.known.ensures c.note.ensures.known c.note.ensures.appended
     (subst (λ (a : HouseLogView). a.loaded ≡ true) (sym same) c.requires.loaded)
-    (subst (λ (a : HouseLogView). StartAllowed a.facts (rows_before a) (past_in a) c.args.client c.args.entry c.args.op c.requires.next.0) (sym same) c.requires.next.1)
+    (subst (λ (a : HouseLogView). StartAllowed (basis_in a) (past_in a) c.args.client c.args.entry c.args.op c.requires.next.0) (sym same) c.requires.next.1)

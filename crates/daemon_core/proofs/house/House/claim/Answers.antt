@@ -1,4 +1,5 @@
 use Rattle.std.proofs.Common.{◌≤◌, ap, sym, subst, refl}
+use Rattle.history_keeper.specs.Signs.{signs_of}
 use Rattle.update_log.specs.declared.facts.Facts.{Facts}
 use Rattle.daemon_core.specs.Claims.{claim_event, stopped_by}
 use Rattle.daemon_core.specs.Fetches.{IsFetchOf, block_count}
@@ -10,7 +11,6 @@ use Rattle.daemon_core.proofs.ClaimExits.{same-faults, stopped-faults}
 use Rattle.daemon_core.proofs.ClaimRoom.{places-same}
 use Rattle.daemon_core.proofs.house.House.claim.Goals as goal
 use Rattle.daemon_core.proofs.Fared.{fared-same}
-use Rattle.daemon_core.specs.Turns.{signs_of}
 
 pub claim_in-requires-clause-may : goal.claim_in-requires-clause-may
 claim_in-requires-clause-may g c =
@@ -27,7 +27,7 @@ returns-in-Ok g c = record {
       gave-after c.args.client c.args.ticket c.args.fetched c.claim_in.result c.args.self.now c.enter.new.self c.claim_in.new.self
       (places-same c.args.self.now.places c.enter.new.self.places c.in-Ok.ensures.elsewhere.places) c.in-Ok.ensures.elsewhere.pool c.claim_in.ensures.gave;
   fared =
-      faults-after (signs_of g.K.Keeper.tells g.K.Keeper.faults) c.args.self.now c.enter.new.self c.claim_in.new.self
+      faults-after (signs_of g.K.Keeper.tells g.K.Keeper.doubt g.K.Keeper.faults) c.args.self.now c.enter.new.self c.claim_in.new.self
       (ap (λ (a : HouseLogView). keeper_faults (past_in a)) c.in-Ok.ensures.entered.same) c.in-Ok.ensures.elsewhere.keeper c.claim_in.ensures.counts c.claim_in.ensures.fared;
   counts = subst (λ (k : g.row.K.Denot). g.K.Keeper.faults k ≤ g.K.Keeper.faults c.claim_in.new.self.keeper) c.in-Ok.ensures.elsewhere.keeper c.claim_in.ensures.counts;
 }
@@ -37,7 +37,7 @@ returns-in-Err g c = record {
   turn = stopped (Unit {0}) c.args.client 16 (claim_event c.args.client c.args.ticket.request c.args.fetched) c.in-Err.stop c.args.self.now.house_log c.enter.new.self.house_log c.in-Err.ensures.entered;
   gave = (c.in-Err.ensures.elsewhere.pool, places-same c.args.self.now.places c.enter.new.self.places c.in-Err.ensures.elsewhere.places, refl, refl);
   fared =
-      fared-same (signs_of g.K.Keeper.tells g.K.Keeper.faults) c.args.self.now c.enter.new.self
+      fared-same (signs_of g.K.Keeper.tells g.K.Keeper.doubt g.K.Keeper.faults) c.args.self.now c.enter.new.self
       (stopped-faults (Unit {0}) c.args.client 16 c.in-Err.stop c.args.self.now.house_log c.enter.new.self.house_log c.in-Err.ensures.entered)
       c.in-Err.ensures.elsewhere.keeper;
   counts = same-faults g.K.Keeper.faults c.args.self.now c.enter.new.self c.in-Err.ensures.elsewhere.keeper;

@@ -1,16 +1,17 @@
-use Rattle.std.proofs.Common.{◌≡◌, ◌<◌, ◌+◌, ◌-◌, ℕ, List, [], true, ap, sym, ◌∙◌, subst, arith}
+use Rattle.std.proofs.Common.{◌≡◌, ◌<◌, ◌+◌, ℕ, List, [], true, ap, sym, ◌∙◌, subst, arith}
 use Rattle.std.specs.Prelude.{Option, unwrap_or}
 use Rattle.history_keeper.specs.declared.row.Row.{Row}
 use Rattle.history_keeper.specs.declared.row.RowState.{RowState}
+use Rattle.history_keeper.specs.Signs.{signs_of}
 use Rattle.update_log.specs.declared.event.Event.{Event}
 use Rattle.update_log.specs.Known.{board_of}
 use Rattle.update_log.specs.Legal.{UnchangedExactly, closing_stored}
 use Rattle.update_log.specs.Pasts.{boots}
 use Rattle.daemon_core.specs.HouseLog.{Appended, Runs}
 use Rattle.daemon_core.specs.House.{IsHouse}
-use Rattle.daemon_core.specs.Housed.{HouseLogView, Housed, Place, past, past_in, rows_before}
+use Rattle.daemon_core.specs.Housed.{basis_in, HouseLogView, Housed, Place, past, past_in}
 use Rattle.daemon_core.specs.Returns.{number_of, places_with}
-use Rattle.daemon_core.specs.Turns.{KeeperFared, signs_of}
+use Rattle.daemon_core.specs.Turns.{KeeperFared}
 use Rattle.daemon_core.proofs.HouseLogKept.{appended-past}
 use Rattle.daemon_core.proofs.ClaimFinish.{DoneIn, close-suits, closed-unchanged, closing_change, finish-fared, finish-ready, house-finished}
 use Rattle.daemon_core.proofs.ClaimHome.{HomePlan, HomeTo, home-plan, back-fits}
@@ -22,7 +23,7 @@ use Rattle.daemon_core.proofs.house.House.close.Given.{Over}
 pub store-stored-requires-clause-no_doubt : goal.store-stored-requires-clause-no_doubt
 store-stored-requires-clause-no_doubt g c =
     let same : c.self.inside.house_log ≡ c.args.self.now.house_log = ap (λ (h : Housed g.row.K.Denot). h.house_log) c.self.view_is in
-    (house-clear _ _ (record { house_log = c.self.inside.house_log; places = c.self.inside.places.items; pool = c.self.inside.pool; keeper = c.self.inside.keeper })
+    (house-clear _ (record { house_log = c.self.inside.house_log; places = c.self.inside.places.items; pool = c.self.inside.pool; keeper = c.self.inside.keeper })
     c.self.invariant c.known.ensures
     (subst (λ (a : HouseLogView). a.loaded ≡ true) (sym same) c.requires.loaded)
     (subst Runs (sym same) c.requires.runs).on).doubt_is
@@ -31,8 +32,8 @@ pub store-stored-requires-clause-suits : goal.store-stored-requires-clause-suits
 store-stored-requires-clause-suits g c =
     let same : c.self.inside.house_log ≡ c.args.self.now.house_log = ap (λ (h : Housed g.row.K.Denot). h.house_log) c.self.view_is in
     let h : Housed g.row.K.Denot = record { house_log = c.self.inside.house_log; places = c.self.inside.places.items; pool = c.self.inside.pool; keeper = c.self.inside.keeper } in
-    close-suits _ _ c.args.client c.args.entry c.requires.comes.0 c.requires.comes.1 [] c.args.board c.args.payload.count h
-    (house-clear _ _ h c.self.invariant c.known.ensures
+    close-suits _ c.args.client c.args.entry c.requires.comes.0 c.requires.comes.1 [] c.args.board c.args.payload.count h
+    (house-clear _ h c.self.invariant c.known.ensures
     (subst (λ (a : HouseLogView). a.loaded ≡ true) (sym same) c.requires.loaded)
     (subst Runs (sym same) c.requires.runs).on)
     c.known.ensures
@@ -60,7 +61,7 @@ plan g c =
     record {
       same = same;
       comes = comes;
-      home = home-plan _ _ c.args.client c.args.entry c.requires.comes.0 c.unwrap_or-number.result c.requires.comes.1 [] c.args.board c.args.payload.count
+      home = home-plan _ c.args.client c.args.entry c.requires.comes.0 c.unwrap_or-number.result c.requires.comes.1 [] c.args.board c.args.payload.count
           (record { house_log = c.self.inside.house_log; places = c.self.inside.places.items; pool = c.self.inside.pool; keeper = c.self.inside.keeper })
           c.self.invariant c.known.ensures comes (c.unwrap_or-number.ensures ∙ ap (λ (o : Option ℕ). unwrap_or o 0) c.board_of.ensures);
       booted = subst (λ (a : HouseLogView). 0 < boots (past_in a)) (sym same) c.requires.booted;
@@ -68,7 +69,7 @@ plan g c =
       loaded = subst (λ (a : HouseLogView). a.loaded ≡ true) (sym same) c.requires.loaded;
       done = subst (λ (s : RowState). DoneIn c.self.inside.house_log c.args.entry s) (sym closed) done;
       state_is = c.closing_stored-state.ensures;
-      unchanged = closed-unchanged _ _ c.unwrap_or-closed.result (closing_change c.self.inside.house_log c.args.entry c.unwrap_or-closed.result) c.store-stored.result c.self.inside.keeper c.store-stored.new.keeper c.store-stored.ensures.stored;
+      unchanged = closed-unchanged (signs_of g.K.Keeper.tells g.K.Keeper.doubt g.K.Keeper.faults) c.unwrap_or-closed.result (closing_change c.self.inside.house_log c.args.entry c.unwrap_or-closed.result) c.store-stored.result c.self.inside.keeper c.store-stored.new.keeper c.store-stored.ensures.stored;
     }
 
 pub put-requires : goal.put-requires
@@ -76,7 +77,7 @@ put-requires g c = (plan g c).home.within
 
 pub give-requires : goal.give-requires
 give-requires g c =
-    let fits = back-fits _ _ c.args.client c.args.entry c.requires.comes.0 c.requires.comes.1 [] c.args.board c.args.payload.count
+    let fits = back-fits _ c.args.client c.args.entry c.requires.comes.0 c.requires.comes.1 [] c.args.board c.args.payload.count
     (record { house_log = c.self.inside.house_log; places = c.self.inside.places.items; pool = c.self.inside.pool; keeper = c.self.inside.keeper })
     c.self.invariant c.known.ensures (plan g c.before.before.before).comes in
     let e = c.into_blocks.ensures.count in omega (arith, fits, e)
@@ -102,7 +103,7 @@ note-requires-clause-row g c = (ready g c).row
 pub invariant_of-self : goal.invariant_of-self
 invariant_of-self g c =
     let p : Plan g c.before.before.before.before.before.before = plan g c.before.before.before.before.before.before in
-    let house = house-finished _ _ c.args.client c.args.entry c.requires.comes.0 c.requires.comes.1 [] c.args.board c.args.payload.count c.unwrap_or-closed.result c.store-stored.result
+    let house = house-finished _ c.args.client c.args.entry c.requires.comes.0 c.requires.comes.1 [] c.args.board c.args.payload.count c.unwrap_or-closed.result c.store-stored.result
     (record { house_log = c.self.inside.house_log; places = c.self.inside.places.items; pool = c.self.inside.pool; keeper = c.self.inside.keeper })
     c.note.new.self c.give.new.self c.store-stored.new.keeper c.self.invariant c.known.ensures c.note.ensures.known
     (subst (λ (s : RowState). Appended c.args.client (Event.Finish c.args.client c.args.entry s c.store-stored.result) c.self.inside.house_log c.note.new.self) p.state_is c.note.ensures.appended)
@@ -110,20 +111,20 @@ invariant_of-self g c =
     (c.give.ensures.conserved ∙ ap (λ (n : ℕ). c.self.inside.pool.free + n) c.into_blocks.ensures.count) in
     let e : c.put.new.places.items ≡ places_with c.self.inside.places.items c.requires.comes.0 c.args.board =
     c.put.ensures ∙ ap (λ (n : ℕ). places_with c.self.inside.places.items n c.args.board) p.home.number_is in
-    subst (λ (ps : List Place). IsHouse g.K.Keeper.tells g.K.Keeper.doubt (record { house_log = c.note.new.self; places = ps; pool = c.give.new.self; keeper = c.store-stored.new.keeper })) (sym e) house
+    subst (λ (ps : List Place). IsHouse (signs_of g.K.Keeper.tells g.K.Keeper.doubt g.K.Keeper.faults) (record { house_log = c.note.new.self; places = ps; pool = c.give.new.self; keeper = c.store-stored.new.keeper })) (sym e) house
 
 pub returns-clause-places : goal.returns-clause-places
 returns-clause-places g c =
-    let n : c.unwrap_or-number.result ≡ number_of c.self.inside.house_log.facts (rows_before c.self.inside.house_log) (past_in c.self.inside.house_log) c.args.entry =
+    let n : c.unwrap_or-number.result ≡ number_of (basis_in c.self.inside.house_log) (past_in c.self.inside.house_log) c.args.entry =
     c.unwrap_or-number.ensures ∙ ap (λ (o : Option ℕ). unwrap_or o 0) (c.board_of.ensures ∙ ap (λ (rs : List Row). board_of c.self.inside.house_log.facts rs c.args.entry) c.known.ensures.stands.rows) in
     c.put.ensures
     ∙ ap (λ (m : ℕ). places_with c.self.inside.places.items m c.args.board) n
-    ∙ ap (λ (h : Housed g.row.K.Denot). places_with h.places (number_of h.house_log.facts (rows_before h.house_log) (past h) c.args.entry) c.args.board) c.self.view_is
+    ∙ ap (λ (h : Housed g.row.K.Denot). places_with h.places (number_of (basis_in h.house_log) (past h) c.args.entry) c.args.board) c.self.view_is
 
 pub returns-clause-fared : goal.returns-clause-fared
 returns-clause-fared g c =
     let q = appended-past c.args.client (Event.Finish c.args.client c.args.entry c.closing_stored-state.result c.store-stored.result) c.self.inside.house_log c.note.new.self c.note.ensures.appended in
     let new : Housed g.row.K.Denot = record { house_log = c.note.new.self; places = c.put.new.places.items; pool = c.give.new.self; keeper = c.store-stored.new.keeper } in
-    subst (λ (h : Housed g.row.K.Denot). KeeperFared (signs_of g.K.Keeper.tells g.K.Keeper.faults) h new) c.self.view_is
-    (finish-fared (signs_of g.K.Keeper.tells g.K.Keeper.faults) g.K.Keeper.doubt c.args.client c.args.entry c.unwrap_or-closed.result c.closing_stored-state.result _ c.store-stored.result (record { house_log = c.self.inside.house_log; places = c.self.inside.places.items; pool = c.self.inside.pool; keeper = c.self.inside.keeper }) new q
+    subst (λ (h : Housed g.row.K.Denot). KeeperFared (signs_of g.K.Keeper.tells g.K.Keeper.doubt g.K.Keeper.faults) h new) c.self.view_is
+    (finish-fared (signs_of g.K.Keeper.tells g.K.Keeper.doubt g.K.Keeper.faults) c.args.client c.args.entry c.unwrap_or-closed.result c.closing_stored-state.result _ c.store-stored.result (record { house_log = c.self.inside.house_log; places = c.self.inside.places.items; pool = c.self.inside.pool; keeper = c.self.inside.keeper }) new q
     c.store-stored.ensures.stored c.store-stored.ensures.cause c.store-stored.ensures.quiet)

@@ -9,7 +9,7 @@ use Rattle.daemon_core.proofs.house.House.end_claim.Goals as goal
 
 pub give-requires : goal.give-requires
 give-requires g c =
-    end-fits _ _ c.args.client (block_count c.args.fetched) _ c.args.ticket
+    end-fits _ c.args.client (block_count c.args.fetched) _ c.args.ticket
     (record { house_log = c.self.inside.house_log; places = c.self.inside.places.items; pool = c.self.inside.pool; keeper = c.self.inside.keeper })
     c.args.self.now.house_log (ap (λ (h : Housed g.row.K.Denot). h.house_log) c.self.view_is) c.self.invariant c.known.ensures c.requires.may c.into_blocks.ensures
 
@@ -30,7 +30,7 @@ note-requires g c =
 
 pub invariant_of-self : goal.invariant_of-self
 invariant_of-self g c =
-    end-house _ _ c.args.client (block_count c.args.fetched) c.args.ticket _ c.note-note.result c.args.answer.now c.claimed.result
+    end-house _ c.args.client (block_count c.args.fetched) c.args.ticket _ c.note-note.result c.args.answer.now c.claimed.result
     (record { house_log = c.self.inside.house_log; places = c.self.inside.places.items; pool = c.self.inside.pool; keeper = c.self.inside.keeper })
     c.args.self.now.house_log c.note.new.self c.give.new.self (ap (λ (h : Housed g.row.K.Denot). h.house_log) c.self.view_is) c.self.invariant c.known.ensures c.note.ensures.known
     c.requires.may c.requires.answered c.requires.none c.claimed.ensures c.note-note.ensures c.note.ensures.appended c.give.ensures.capacity

@@ -2,6 +2,7 @@ use Rattle.std.proofs.Common.{◌≡◌, ◌<◌, ◌≤◌, List, length, map, 
 use Rattle.std.specs.Prelude.{Option, slice_set, unwrap_or}
 use Rattle.emulated_boards.specs.Boards.{BoardState}
 use Rattle.emulated_boards.specs.declared.mark.Mark.{Mark}
+use Rattle.history_keeper.specs.Signs.{signs_of}
 use Rattle.update_log.specs.declared.event.Event.{Event}
 use Rattle.update_log.specs.Pasts.{boots}
 use Rattle.daemon_core.specs.HouseLog.{Appended, Runs}
@@ -17,7 +18,7 @@ use Rattle.daemon_core.proofs.house.House.finish_step.Given.{Over}
 plan : (g : Over) (c : goal.After-marks g) → EndPlan c.self.inside.house_log c.self.inside.places.items c.args.entry c.requires.ends.0 c.unwrap_or-number.result c.args.board.now
 plan g c =
     let same : c.self.inside.house_log ≡ c.args.self.now.house_log = ap (λ (h : Housed g.row.K.Denot). h.house_log) c.self.view_is in
-    end-plan _ _ c.args.client c.args.entry c.args.op c.args.outcome c.requires.ends.0 c.unwrap_or-number.result c.args.board.now
+    end-plan _ c.args.client c.args.entry c.args.op c.args.outcome c.requires.ends.0 c.unwrap_or-number.result c.args.board.now
     (record { house_log = c.self.inside.house_log; places = c.self.inside.places.items; pool = c.self.inside.pool; keeper = c.self.inside.keeper })
     c.self.invariant c.known.ensures
     (subst (λ (a : HouseLogView). EndsIn a c.args.client c.args.entry c.args.op c.args.outcome c.requires.ends.0 c.args.board.now) (sym same) c.requires.ends.1)
@@ -48,7 +49,7 @@ told g c =
     let ends : EndsIn c.self.inside.house_log c.args.client c.args.entry c.args.op c.args.outcome c.requires.ends.0 c.args.board.now =
     subst (λ (a : HouseLogView). EndsIn a c.args.client c.args.entry c.args.op c.args.outcome c.requires.ends.0 c.args.board.now) (sym same) c.requires.ends.1 in
     let p : EndPlan c.self.inside.house_log c.self.inside.places.items c.args.entry c.requires.ends.0 c.unwrap_or-number.result c.args.board.now =
-    end-plan _ _ c.args.client c.args.entry c.args.op c.args.outcome c.requires.ends.0 c.unwrap_or-number.result c.args.board.now
+    end-plan _ c.args.client c.args.entry c.args.op c.args.outcome c.requires.ends.0 c.unwrap_or-number.result c.args.board.now
     (record { house_log = c.self.inside.house_log; places = c.self.inside.places.items; pool = c.self.inside.pool; keeper = c.self.inside.keeper })
     c.self.invariant c.known.ensures ends (c.unwrap_or-number.ensures ∙ ap (λ o. unwrap_or o 0) c.board_of.ensures) in
     let event : Event.End c.args.client c.args.entry c.args.op c.args.outcome c.tell-told.result c.view-seen.result ≡ end_event c.self.inside.house_log c.args.client c.args.entry c.args.op c.args.outcome c.args.board.now =
@@ -86,12 +87,12 @@ note-requires-clause-row g c = (told g c).ready.row
 pub invariant_of-self : goal.invariant_of-self
 invariant_of-self g c =
     let t : Told g c.before = told g c.before in
-    let house = house-ended _ _ c.args.client c.args.entry c.args.op c.args.outcome c.requires.ends.0 c.args.board.now
+    let house = house-ended _ c.args.client c.args.entry c.args.op c.args.outcome c.requires.ends.0 c.args.board.now
     (record { house_log = c.self.inside.house_log; places = c.self.inside.places.items; pool = c.self.inside.pool; keeper = c.self.inside.keeper })
     c.note.new.self c.self.invariant c.known.ensures c.note.ensures.known
     (subst (λ (e : Event). Appended c.args.client e c.self.inside.house_log c.note.new.self) t.event c.note.ensures.appended)
     t.loaded t.runs t.ends in
-    subst (λ (ps : List Place). IsHouse g.K.Keeper.tells g.K.Keeper.doubt (record { house_log = c.note.new.self; places = ps; pool = c.self.inside.pool; keeper = c.self.inside.keeper })) (sym t.places) house
+    subst (λ (ps : List Place). IsHouse (signs_of g.K.Keeper.tells g.K.Keeper.doubt g.K.Keeper.faults) (record { house_log = c.note.new.self; places = ps; pool = c.self.inside.pool; keeper = c.self.inside.keeper })) (sym t.places) house
 
 pub returns-clause-appended : goal.returns-clause-appended
 returns-clause-appended g c =

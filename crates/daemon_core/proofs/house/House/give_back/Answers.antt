@@ -1,10 +1,11 @@
 use Rattle.std.proofs.Common.{◌≡◌, ◌<◌, ◌+◌, ℕ, List, true, ap, sym, ◌∙◌, subst, arith}
 use Rattle.std.specs.Prelude.{Option, unwrap_or}
 use Rattle.history_keeper.specs.declared.row.Row.{Row}
+use Rattle.history_keeper.specs.Signs.{signs_of}
 use Rattle.update_log.specs.Known.{board_of}
 use Rattle.update_log.specs.Pasts.{boots, off}
 use Rattle.daemon_core.specs.House.{IsHouse}
-use Rattle.daemon_core.specs.Housed.{HouseLogView, Housed, Place, past, past_in, rows_before}
+use Rattle.daemon_core.specs.Housed.{basis_in, HouseLogView, Housed, Place, past, past_in}
 use Rattle.daemon_core.specs.Returns.{number_of, places_with}
 use Rattle.daemon_core.proofs.ClaimHome.{HomePlan, HomeTo, back-fits, back-ready, back_event, home-plan, house-back, loaded-live}
 use Rattle.daemon_core.proofs.ClaimHouse.{IsReady}
@@ -28,7 +29,7 @@ plan g c =
     record {
       same = same;
       comes = comes;
-      home = home-plan _ _ c.args.client c.args.entry c.requires.comes.0 c.unwrap_or-number.result c.requires.comes.1 c.requires.comes.2 c.args.board c.args.payload.count
+      home = home-plan _ c.args.client c.args.entry c.requires.comes.0 c.unwrap_or-number.result c.requires.comes.1 c.requires.comes.2 c.args.board c.args.payload.count
           (record { house_log = c.self.inside.house_log; places = c.self.inside.places.items; pool = c.self.inside.pool; keeper = c.self.inside.keeper })
           c.self.invariant c.known.ensures comes (c.unwrap_or-number.ensures ∙ ap (λ (o : Option ℕ). unwrap_or o 0) c.board_of.ensures);
       booted = subst (λ (a : HouseLogView). 0 < boots (past_in a)) (sym same) c.requires.booted;
@@ -41,7 +42,7 @@ put-requires g c = (plan g c).home.within
 
 pub give-requires : goal.give-requires
 give-requires g c =
-    let fits = back-fits _ _ c.args.client c.args.entry c.requires.comes.0 c.requires.comes.1 c.requires.comes.2 c.args.board c.args.payload.count
+    let fits = back-fits _ c.args.client c.args.entry c.requires.comes.0 c.requires.comes.1 c.requires.comes.2 c.args.board c.args.payload.count
     (record { house_log = c.self.inside.house_log; places = c.self.inside.places.items; pool = c.self.inside.pool; keeper = c.self.inside.keeper })
     c.self.invariant c.known.ensures (plan g c.before.before.before).comes in
     let e = c.into_blocks.ensures.count in omega (arith, fits, e)
@@ -69,18 +70,18 @@ note-requires-clause-row g c = (ready g c).row
 pub invariant_of-self : goal.invariant_of-self
 invariant_of-self g c =
     let p : Plan g c.before.before.before.before.before.before = plan g c.before.before.before.before.before.before in
-    let house = house-back _ _ c.args.client c.args.entry c.requires.comes.0 c.requires.comes.1 c.requires.comes.2 c.args.board c.args.payload.count
+    let house = house-back _ c.args.client c.args.entry c.requires.comes.0 c.requires.comes.1 c.requires.comes.2 c.args.board c.args.payload.count
     (record { house_log = c.self.inside.house_log; places = c.self.inside.places.items; pool = c.self.inside.pool; keeper = c.self.inside.keeper })
     c.note.new.self c.give.new.self c.self.invariant c.known.ensures c.note.ensures.known c.note.ensures.appended p.loaded p.comes c.give.ensures.capacity
     (c.give.ensures.conserved ∙ ap (λ (n : ℕ). c.self.inside.pool.free + n) c.into_blocks.ensures.count) in
     let e : c.put.new.places.items ≡ places_with c.self.inside.places.items c.requires.comes.0 c.args.board =
     c.put.ensures ∙ ap (λ (n : ℕ). places_with c.self.inside.places.items n c.args.board) p.home.number_is in
-    subst (λ (ps : List Place). IsHouse g.K.Keeper.tells g.K.Keeper.doubt (record { house_log = c.note.new.self; places = ps; pool = c.give.new.self; keeper = c.self.inside.keeper })) (sym e) house
+    subst (λ (ps : List Place). IsHouse (signs_of g.K.Keeper.tells g.K.Keeper.doubt g.K.Keeper.faults) (record { house_log = c.note.new.self; places = ps; pool = c.give.new.self; keeper = c.self.inside.keeper })) (sym e) house
 
 pub returns-clause-places : goal.returns-clause-places
 returns-clause-places g c =
-    let n : c.unwrap_or-number.result ≡ number_of c.self.inside.house_log.facts (rows_before c.self.inside.house_log) (past_in c.self.inside.house_log) c.args.entry =
+    let n : c.unwrap_or-number.result ≡ number_of (basis_in c.self.inside.house_log) (past_in c.self.inside.house_log) c.args.entry =
     c.unwrap_or-number.ensures ∙ ap (λ (o : Option ℕ). unwrap_or o 0) (c.board_of.ensures ∙ ap (λ (rs : List Row). board_of c.self.inside.house_log.facts rs c.args.entry) c.known.ensures.stands.rows) in
     c.put.ensures
     ∙ ap (λ (m : ℕ). places_with c.self.inside.places.items m c.args.board) n
-    ∙ ap (λ (h : Housed g.row.K.Denot). places_with h.places (number_of h.house_log.facts (rows_before h.house_log) (past h) c.args.entry) c.args.board) c.self.view_is
+    ∙ ap (λ (h : Housed g.row.K.Denot). places_with h.places (number_of (basis_in h.house_log) (past h) c.args.entry) c.args.board) c.self.view_is

@@ -35,7 +35,7 @@ invariant_of-self g c =
     let e : c.self.inside.house_log ≡ c.args.self.now.house_log = ap (λ (h : Housed g.row.K.Denot). h.house_log) c.self.view_is in
     let t = c.in-Ok.ensures.taken in
     let n = c.in-Ok.ensures.conserved in
-    house-held _ _ c.args.client c.args.request.now c.args.pending c.args.blocks c.args.release
+    house-held _ c.args.client c.args.request.now c.args.pending c.args.blocks c.args.release
     (record { house_log = c.self.inside.house_log; places = c.self.inside.places.items; pool = c.self.inside.pool; keeper = c.self.inside.keeper })
     c.note.new.self c.take.new.self c.self.invariant c.known.ensures c.note.ensures.known c.note.ensures.appended
     (subst (λ (a : HouseLogView). a.loaded ≡ true) (sym e) c.requires.loaded)

@@ -1,8 +1,8 @@
 use Rattle.std.proofs.Common.{ap, sym, ◌∙◌}
+use Rattle.history_keeper.specs.Signs.{signs_of}
 use Rattle.update_log.specs.Pasts.{past_of}
 use Rattle.daemon_core.specs.Housed.{HouseLogView}
 use Rattle.daemon_core.specs.Keeping.{keeper_faults}
-use Rattle.daemon_core.specs.Turns.{signs_of}
 use Rattle.daemon_core.proofs.ClaimAnswers.{faults-after}
 use Rattle.daemon_core.proofs.JudgeRoom.{judged-after, off-same, row-there}
 use Rattle.daemon_core.proofs.house.House.judge.Goals as goal
@@ -20,4 +20,4 @@ returns-clause-turn g c =
 
 pub returns-clause-fared : goal.returns-clause-fared
 returns-clause-fared g c =
-    faults-after (signs_of g.K.Keeper.tells g.K.Keeper.faults) c.args.self.now c.reserve.new.self c.judge_standing.new.self (ap (λ (a : HouseLogView). keeper_faults (past_of a.core.log)) c.reserve.ensures.same) c.reserve.ensures.elsewhere.keeper c.judge_standing.ensures.counts c.judge_standing.ensures.fared
+    faults-after (signs_of g.K.Keeper.tells g.K.Keeper.doubt g.K.Keeper.faults) c.args.self.now c.reserve.new.self c.judge_standing.new.self (ap (λ (a : HouseLogView). keeper_faults (past_of a.core.log)) c.reserve.ensures.same) c.reserve.ensures.elsewhere.keeper c.judge_standing.ensures.counts c.judge_standing.ensures.fared

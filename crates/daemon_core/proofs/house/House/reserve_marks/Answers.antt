@@ -1,4 +1,5 @@
 use Rattle.std.proofs.Common.{ap, subst, length, arith}
+use Rattle.history_keeper.specs.Signs.{signs_of}
 use Rattle.daemon_core.specs.Claims.{RoomierPlaces}
 use Rattle.daemon_core.specs.Housed.{Housed}
 use Rattle.daemon_core.proofs.ClaimRoom.{house-with_room, reserved-places, reserved-room, within-without}
@@ -14,7 +15,7 @@ pub invariant_of-self : goal.invariant_of-self
 invariant_of-self g c =
     let e = ap (λ (h : Housed g.row.K.Denot). length h.places) c.self.view_is in
     let r = c.requires.within in
-    house-with_room g.K.Keeper.tells g.K.Keeper.doubt (record { house_log = c.self.inside.house_log; places = c.self.inside.places.items; pool = c.self.inside.pool; keeper = c.self.inside.keeper }) c.put.new.places.items c.self.invariant
+    house-with_room (signs_of g.K.Keeper.tells g.K.Keeper.doubt g.K.Keeper.faults) (record { house_log = c.self.inside.house_log; places = c.self.inside.places.items; pool = c.self.inside.pool; keeper = c.self.inside.keeper }) c.put.new.places.items c.self.invariant
     (reserved-places c.self.inside.places.items c.take_out-board.new.places.items c.put.new.places.items c.args.number c.take_out-board.result c.reserve_marks-reserved.new.self (omega (arith, e, r)) c.take_out-board.ensures.board c.reserve_marks-reserved.ensures.same c.take_out-board.ensures.places c.put.ensures)
 
 pub returns-clause-roomier : goal.returns-clause-roomier

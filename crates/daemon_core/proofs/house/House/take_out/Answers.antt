@@ -8,7 +8,7 @@ use Rattle.daemon_core.proofs.house.House.take_out.Goals as goal
 
 pub move_out-requires : goal.move_out-requires
 move_out-requires g c =
-    let plan = unplug-plan _ _ (record { house_log = c.self.inside.house_log; places = c.self.inside.places.items; pool = c.self.inside.pool; keeper = c.self.inside.keeper })
+    let plan = unplug-plan _ (record { house_log = c.self.inside.house_log; places = c.self.inside.places.items; pool = c.self.inside.pool; keeper = c.self.inside.keeper })
     c.args.self.now.house_log c.args.device.now c.unwrap_or-number.result (ap (λ (h : Housed g.row.K.Denot). h.house_log) c.self.view_is) c.self.invariant c.known.ensures c.requires.free
     (c.unwrap_or-number.ensures ∙ ap (λ (o : Option ℕ). unwrap_or o 0) c.board_found.ensures) in
     record { within = plan.within; home = plan.home }
@@ -28,11 +28,11 @@ note-requires g c =
 
 pub invariant_of-self : goal.invariant_of-self
 invariant_of-self g c =
-    house-unplugged _ _ c.args.client c.args.device.now c.unwrap_or-number.result
+    house-unplugged _ c.args.client c.args.device.now c.unwrap_or-number.result
     (record { house_log = c.self.inside.house_log; places = c.self.inside.places.items; pool = c.self.inside.pool; keeper = c.self.inside.keeper })
     c.args.self.now.house_log c.note.new.self c.move_out.new.places.items
     (ap (λ (h : Housed g.row.K.Denot). h.house_log) c.self.view_is) c.self.invariant c.known.ensures c.note.ensures.known c.note.ensures.appended c.requires.loaded
-    (unplug-plan _ _ (record { house_log = c.self.inside.house_log; places = c.self.inside.places.items; pool = c.self.inside.pool; keeper = c.self.inside.keeper })
+    (unplug-plan _ (record { house_log = c.self.inside.house_log; places = c.self.inside.places.items; pool = c.self.inside.pool; keeper = c.self.inside.keeper })
     c.args.self.now.house_log c.args.device.now c.unwrap_or-number.result (ap (λ (h : Housed g.row.K.Denot). h.house_log) c.self.view_is) c.self.invariant c.known.ensures c.requires.free
     (c.unwrap_or-number.ensures ∙ ap (λ (o : Option ℕ). unwrap_or o 0) c.board_found.ensures))
     c.move_out.ensures
@@ -41,7 +41,7 @@ pub returns-clause-moved : goal.returns-clause-moved
 returns-clause-moved g c =
     subst (λ (h : Housed g.row.K.Denot). BoardMoved unplugged h.house_log c.args.device.now h.places c.move_out.new.places.items) c.self.view_is
     (board-moved unplugged c.self.inside.house_log c.args.device.now c.unwrap_or-number.result c.self.inside.places.items c.move_out.new.places.items
-    (unplug-plan _ _ (record { house_log = c.self.inside.house_log; places = c.self.inside.places.items; pool = c.self.inside.pool; keeper = c.self.inside.keeper })
+    (unplug-plan _ (record { house_log = c.self.inside.house_log; places = c.self.inside.places.items; pool = c.self.inside.pool; keeper = c.self.inside.keeper })
     c.args.self.now.house_log c.args.device.now c.unwrap_or-number.result (ap (λ (h : Housed g.row.K.Denot). h.house_log) c.self.view_is) c.self.invariant c.known.ensures c.requires.free
     (c.unwrap_or-number.ensures ∙ ap (λ (o : Option ℕ). unwrap_or o 0) c.board_found.ensures))
     c.move_out.ensures)

@@ -1,6 +1,6 @@
 use Rattle.std.proofs.Common.{◌≡◌, true, false, refl, sym, ◌∙◌, arith}
 use Rattle.update_log.specs.Pasts.{time_of}
-use Rattle.daemon_core.specs.Housed.{past_in, rows_before}
+use Rattle.daemon_core.specs.Housed.{basis_in, past_in}
 use Rattle.daemon_core.proofs.HouseLogKept.{boots-same, legal-next}
 use Rattle.daemon_core.proofs.LogLaws.{time-same}
 use Rattle.daemon_core.proofs.house_log.HouseLog.note.Goals as goal
@@ -9,7 +9,7 @@ pub append-requires : goal.append-requires
 append-requires c = (
   refl,
   (
-    legal-next c.args.self.now.facts c.args.self.now.first (rows_before c.args.self.now) (past_in c.args.self.now) c.args.event c.known.ensures.legal c.requires.takes c.requires.allowed,
+    legal-next (basis_in c.args.self.now) c.args.self.now.first (past_in c.args.self.now) c.args.event c.known.ensures.legal c.requires.takes c.requires.allowed,
     (
       c.requires.made,
       (

@@ -5,7 +5,7 @@ use Rattle.update_log.specs.Crashes.{next_boot}
 use Rattle.update_log.specs.Known.{rows}
 use Rattle.update_log.specs.Pasts.{boots}
 use Rattle.daemon_core.specs.HouseLog.{Appended, IsLegalSo}
-use Rattle.daemon_core.specs.Housed.{HouseLogView, past_in, rows_before}
+use Rattle.daemon_core.specs.Housed.{basis_in, HouseLogView, past_in}
 use Rattle.daemon_core.specs.Owed.{owed}
 use Rattle.daemon_core.proofs.HouseKept.{appended-rows}
 use Rattle.daemon_core.proofs.BootHouseLog.{boot-event, boot-faults, boot-legal_in, boot-rows, owed-boot}
@@ -21,7 +21,7 @@ append-requires c =
     let e = boot-event (past_in old) plan found c.boots.result c.of.result listed n c.of.ensures in (
       refl,
       (
-        subst (λ (x : Event). IsLegalSo old.facts old.first (rows_before old) (x ∷ past_in old)) (sym e)
+        subst (λ (x : Event). IsLegalSo (basis_in old) old.first (x ∷ past_in old)) (sym e)
             (boot-legal_in old plan found listed c.known.ensures c.requires.listed c.requires.found),
         (
           tt,
@@ -29,7 +29,7 @@ append-requires c =
             subst (λ (x : Event). owed (x ∷ past_in old) + 1 ≤ old.room) (sym e)
                 (let o = owed-boot (past_in old) plan found listed in let r = c.requires.room in omega (arith, o, r)),
             (
-              subst (λ (x : Event). length (rows old.facts (rows_before old) (x ∷ past_in old)) ≤ length old.core.rows + old.core.row_room) (sym e)
+              subst (λ (x : Event). length (rows (basis_in old) (x ∷ past_in old)) ≤ length old.core.rows + old.core.row_room) (sym e)
                   (subst (λ (x : List Row). length x ≤ length old.core.rows + old.core.row_room) (sym (boot-rows old plan found listed c.known.ensures)) c.requires.row),
               (λ l. boot-faults old plan found listed c.known.ensures c.requires.loaded l, (c.requires.few_boots, c.requires.timely)),
             ),

@@ -1,44 +1,45 @@
-use Rattle.std.proofs.Common.{◌≡◌, ◌-◌, length, min, ap, subst, arith}
-use Rattle.std.specs.Prelude.{Some, vec_len, vec_capacity}
+use Rattle.std.proofs.Common.{◌≡◌, length, ap, subst, arith}
+use Rattle.std.specs.Prelude.{Some}
 use Rattle.history_keeper.specs.Changes.{Suits}
 use Rattle.history_keeper.specs.declared.change.Change.{Change}
 use Rattle.history_keeper.specs.declared.row.RowState.{RowState}
-use Rattle.update_log.specs.CoreSteps.{addition_on}
+use Rattle.core_state.specs.CoreSteps.{addition_on}
 use Rattle.update_log.specs.Pasts.{time_of}
 use Rattle.daemon_core.specs.Housed.{HouseLogView, past_in}
+use Rattle.daemon_core.specs.Openings.{house_log_of}
 use Rattle.daemon_core.proofs.ClaimRows.{accept-over_claim, few-begun, suits-begun}
 use Rattle.daemon_core.proofs.house_log.HouseLog.row_begun.Goals as goal
 
 pub overflow_cast-entry : goal.overflow_cast-entry
 overflow_cast-entry c =
-    let v : HouseLogView = record { facts = c.self.inside.facts; first = c.self.inside.first.items; opening = c.self.inside.opening.items; loaded = c.self.inside.loaded; reopened = c.self.inside.reopened; core = c.self.inside.core; makers = c.self.inside.makers.items; room = min c.self.inside.core.room (vec_capacity c.self.inside.makers - vec_len c.self.inside.makers) } in
+    let v : HouseLogView = house_log_of c.self.inside in
     let e : v ≡ c.args.self.now = c.self.view_is in
     let a = accept-over_claim v c.args.self.now c.args.client c.args.request.now c.args.release e c.requires in
-    let f = few-begun v c.args.client c.args.request.now c.args.release c.self.invariant a in
+    let f = few-begun v c.args.client c.args.request.now c.args.release c.self.invariant.house_log a in
     let l = ap length c.rows.ensures in
     omega (arith, f, l)
 
 pub overflow_add-entry : goal.overflow_add-entry
 overflow_add-entry c =
-    let v : HouseLogView = record { facts = c.self.inside.facts; first = c.self.inside.first.items; opening = c.self.inside.opening.items; loaded = c.self.inside.loaded; reopened = c.self.inside.reopened; core = c.self.inside.core; makers = c.self.inside.makers.items; room = min c.self.inside.core.room (vec_capacity c.self.inside.makers - vec_len c.self.inside.makers) } in
+    let v : HouseLogView = house_log_of c.self.inside in
     let e : v ≡ c.args.self.now = c.self.view_is in
     let a = accept-over_claim v c.args.self.now c.args.client c.args.request.now c.args.release e c.requires in
-    let f = few-begun v c.args.client c.args.request.now c.args.release c.self.invariant a in
+    let f = few-begun v c.args.client c.args.request.now c.args.release c.self.invariant.house_log a in
     let l = ap length c.rows.ensures in
     omega (arith, f, l)
 
 pub asked-requires : goal.asked-requires
 asked-requires c =
-    let v : HouseLogView = record { facts = c.self.inside.facts; first = c.self.inside.first.items; opening = c.self.inside.opening.items; loaded = c.self.inside.loaded; reopened = c.self.inside.reopened; core = c.self.inside.core; makers = c.self.inside.makers.items; room = min c.self.inside.core.room (vec_capacity c.self.inside.makers - vec_len c.self.inside.makers) } in
+    let v : HouseLogView = house_log_of c.self.inside in
     let e : v ≡ c.args.self.now = c.self.view_is in
     let a = accept-over_claim v c.args.self.now c.args.client c.args.request.now c.args.release e c.requires in
-    let f = few-begun v c.args.client c.args.request.now c.args.release c.self.invariant a in
+    let f = few-begun v c.args.client c.args.request.now c.args.release c.self.invariant.house_log a in
     λ h. omega (arith, f)
 
 pub returns-clause-suits : goal.returns-clause-suits
 returns-clause-suits c =
-    let v : HouseLogView = record { facts = c.self.inside.facts; first = c.self.inside.first.items; opening = c.self.inside.opening.items; loaded = c.self.inside.loaded; reopened = c.self.inside.reopened; core = c.self.inside.core; makers = c.self.inside.makers.items; room = min c.self.inside.core.room (vec_capacity c.self.inside.makers - vec_len c.self.inside.makers) } in
+    let v : HouseLogView = house_log_of c.self.inside in
     let e : v ≡ c.args.self.now = c.self.view_is in
     let a = accept-over_claim v c.args.self.now c.args.client c.args.request.now c.args.release e c.requires in
     let h : addition_on v.facts (time_of (past_in v)) v.core.views v.core.rows c.args.client c.args.request.now RowState.Begun ≡ Some (Change.Add c.in-Some-Add.row) = cc in
-    subst (λ (x : HouseLogView). Suits (Change.Add c.in-Some-Add.row) x.core.rows) e (suits-begun v c.args.client c.args.request.now c.args.release c.in-Some-Add.row c.self.invariant a h)
+    subst (λ (x : HouseLogView). Suits (Change.Add c.in-Some-Add.row) x.core.rows) e (suits-begun v c.args.client c.args.request.now c.args.release c.in-Some-Add.row c.self.invariant.house_log a h)

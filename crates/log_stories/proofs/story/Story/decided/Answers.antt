@@ -6,4 +6,4 @@ use Rattle.log_stories.proofs.story.Story.decided.Goals as goal
 pub returns : goal.returns
 returns c =
     c.verdict.ensures c.self.inside.opening.items c.self.invariant.stands
-    ∙ ap (λ (s : StoryTold). verdict s.facts s.opening (past s) c.args.client c.args.request.now c.args.stage) c.self.view_is
+    ∙ ap (λ (s : StoryTold). verdict s.basis (past s) c.args.client c.args.request.now c.args.stage) c.self.view_is

@@ -1,4 +1,4 @@
 use Rattle.log_stories.proofs.story.Story.settle_now.Given as goal
 
 abbrev pub ghost-append : goal.ghost-append
-ghost-append a = a.self.now.opening
+ghost-append a = a.self.now.basis.opening

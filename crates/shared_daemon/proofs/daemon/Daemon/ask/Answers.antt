@@ -24,4 +24,4 @@ pub returns-clause-turn : goal.returns-clause-turn
 returns-clause-turn g c = took g.N.Naming.name c.args.pass.now c.enter-turn.result (λ (i : ℕ) (met log : List Entry). TurnedIn i (λ (a : Asked). Event.Ask i c.args.request.now None (answer_of a)) c.ask-answer.result met log) c.leave.new.pass c.number.result (chronicle c.state.result.now) (chronicle c.ask-answer.new.self) c.enter-turn.ensures.begins (c.number.ensures ∙ c.enter-turn.ensures.same) (c.enter-turn.ensures.list ∙ ap (λ (h : Housed g.row.K.Denot). chronicle h) (sym c.state.ensures.value)) (c.ask-answer.ensures.turn) c.leave.ensures.seen c.leave.ensures.mine
 
 pub returns-clause-holds : goal.returns-clause-holds
-returns-clause-holds g c = subst (λ (i : ℕ). IfOk c.ask-answer.result (HoldsFor g.N.Naming.name.facts i c.args.request.now None)) (c.number.ensures ∙ c.enter-turn.ensures.same) c.ask-answer.ensures.holds
+returns-clause-holds g c = subst (λ (i : ℕ). IfOk c.ask-answer.result (HoldsFor g.N.Naming.name.basis.facts i c.args.request.now None)) (c.number.ensures ∙ c.enter-turn.ensures.same) c.ask-answer.ensures.holds

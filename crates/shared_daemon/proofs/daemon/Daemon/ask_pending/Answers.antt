@@ -25,7 +25,7 @@ ask_pending-answer-requires-clause-pending g c =
     let name : Name = g.N.Naming.name in
     let row : Row = c.requires.pending.0 in (
       row,
-      subst (λ (l : List Entry). row_of (rows name.facts name.opening (past_seen l)) c.args.entry ≡ Some row) (c.enter-turn.ensures.list ∙ ap (λ (h : Housed g.row.K.Denot). chronicle h) (sym c.state.ensures.value))
+      subst (λ (l : List Entry). row_of (rows name.basis (past_seen l)) c.args.entry ≡ Some row) (c.enter-turn.ensures.list ∙ ap (λ (h : Housed g.row.K.Denot). chronicle h) (sym c.state.ensures.value))
           (pending-met name c.args.pass.now.number c.args.pass.now.seen c.enter-turn.result.seen c.args.entry row c.requires.pass.log c.enter-turn.ensures.begins.meets c.requires.own c.requires.pending.1 c.requires.pending.2),
       c.requires.pending.2,
     )
@@ -39,8 +39,8 @@ leave-requires-clause-adds g c =
     let row : Row = c.requires.pending.0 in
     let at : List Entry = chronicle c.state.result.now in
     let log : List Entry = chronicle c.ask_pending-answer.new.self in
-    let there : row_of (rows name.facts name.opening (past_seen at)) c.args.entry ≡ Some row =
-    subst (λ (l : List Entry). row_of (rows name.facts name.opening (past_seen l)) c.args.entry ≡ Some row) (c.enter-turn.ensures.list ∙ ap (λ (h : Housed g.row.K.Denot). chronicle h) (sym c.state.ensures.value))
+    let there : row_of (rows name.basis (past_seen at)) c.args.entry ≡ Some row =
+    subst (λ (l : List Entry). row_of (rows name.basis (past_seen l)) c.args.entry ≡ Some row) (c.enter-turn.ensures.list ∙ ap (λ (h : Housed g.row.K.Denot). chronicle h) (sym c.state.ensures.value))
     (pending-met name c.args.pass.now.number c.args.pass.now.seen c.enter-turn.result.seen c.args.entry row c.requires.pass.log c.enter-turn.ensures.begins.meets c.requires.own c.requires.pending.1 c.requires.pending.2) in
     adds name c.args.pass.now c.enter-turn.result 0 at log c.enter-turn.ensures.begins (sym c.requires.own) (c.enter-turn.ensures.list ∙ ap (λ (h : Housed g.row.K.Denot). chronicle h) (sym c.state.ensures.value))
     (turned-adds 0 (λ (a : Asked). Event.Ask 0 (request_of_row row) (Some c.args.entry) (answer_of a)) c.ask_pending-answer.result at log (c.ask_pending-answer.ensures.turn row there))
@@ -51,8 +51,8 @@ returns-clause-turn g c = λ row is.
     let at : List Entry = chronicle c.state.result.now in
     let log : List Entry = chronicle c.ask_pending-answer.new.self in
     let same : row ≡ c.requires.pending.0 = same-row row c.requires.pending.0 (sym is ∙ c.requires.pending.1) in
-    let there : row_of (rows name.facts name.opening (past_seen at)) c.args.entry ≡ Some row =
-    subst (λ (l : List Entry). row_of (rows name.facts name.opening (past_seen l)) c.args.entry ≡ Some row) (c.enter-turn.ensures.list ∙ ap (λ (h : Housed g.row.K.Denot). chronicle h) (sym c.state.ensures.value))
+    let there : row_of (rows name.basis (past_seen at)) c.args.entry ≡ Some row =
+    subst (λ (l : List Entry). row_of (rows name.basis (past_seen l)) c.args.entry ≡ Some row) (c.enter-turn.ensures.list ∙ ap (λ (h : Housed g.row.K.Denot). chronicle h) (sym c.state.ensures.value))
     (pending-met name c.args.pass.now.number c.args.pass.now.seen c.enter-turn.result.seen c.args.entry row c.requires.pass.log c.enter-turn.ensures.begins.meets c.requires.own is (ap (λ (r : Row). r.state) same ∙ c.requires.pending.2)) in
     took name c.args.pass.now c.enter-turn.result (λ (i : ℕ) (met log : List Entry). TurnedIn 0 (λ (a : Asked). Event.Ask 0 (request_of_row row) (Some c.args.entry) (answer_of a)) c.ask_pending-answer.result met log)
     c.leave.new.pass 0 at log c.enter-turn.ensures.begins (sym c.requires.own) (c.enter-turn.ensures.list ∙ ap (λ (h : Housed g.row.K.Denot). chronicle h) (sym c.state.ensures.value)) (c.ask_pending-answer.ensures.turn row there) c.leave.ensures.seen c.leave.ensures.mine
@@ -63,5 +63,5 @@ returns-clause-holds g c = λ row is.
     let at : List Entry = chronicle c.state.result.now in
     let same : row ≡ c.requires.pending.0 = same-row row c.requires.pending.0 (sym is ∙ c.requires.pending.1) in
     c.ask_pending-answer.ensures.holds row
-    (subst (λ (l : List Entry). row_of (rows name.facts name.opening (past_seen l)) c.args.entry ≡ Some row) (c.enter-turn.ensures.list ∙ ap (λ (h : Housed g.row.K.Denot). chronicle h) (sym c.state.ensures.value))
+    (subst (λ (l : List Entry). row_of (rows name.basis (past_seen l)) c.args.entry ≡ Some row) (c.enter-turn.ensures.list ∙ ap (λ (h : Housed g.row.K.Denot). chronicle h) (sym c.state.ensures.value))
     (pending-met name c.args.pass.now.number c.args.pass.now.seen c.enter-turn.result.seen c.args.entry row c.requires.pass.log c.enter-turn.ensures.begins.meets c.requires.own is (ap (λ (r : Row). r.state) same ∙ c.requires.pending.2)))

@@ -1,8 +1,8 @@
 use Rattle.std.proofs.Common.{All, ◌<◌, List, [], ap, sym, ◌∙◌, subst}
+use Rattle.history_keeper.specs.Signs.{signs_of}
 use Rattle.daemon_core.specs.HouseLog.{IsHouseLog}
 use Rattle.daemon_core.specs.House.{IsHouse}
 use Rattle.daemon_core.specs.Housed.{Housed}
-use Rattle.daemon_core.specs.Turns.{signs_of}
 use Rattle.turn_lock.specs.Lists.{BeginsWith, beyond}
 use Rattle.turn_lock.specs.Shown.{HasItsEntries, LockView, PassView}
 use Rattle.shared_daemon.specs.declared.entry.Entry.{Entry}
@@ -18,7 +18,7 @@ close-named-requires-clause-all g c = passes-count g.N.Naming.name [] c.args.pas
 pub returns-clause-log : goal.returns-clause-log
 returns-clause-log g c =
     subst (λ (h : Housed g.row.K.Denot). IsLogOf g.N.Naming.name (chronicle h)) (sym c.into_house.ensures.same)
-    (log-named (signs_of g.K.Keeper.tells g.K.Keeper.faults) g.N.Naming.name c.close-named.result c.known.ensures.name c.known.ensures.house_log
+    (log-named (signs_of g.K.Keeper.tells g.K.Keeper.doubt g.K.Keeper.faults) g.N.Naming.name c.close-named.result c.known.ensures.name c.known.ensures.house_log
     (subst (λ (l : List Entry). BeginsWith (chronicle c.close-named.result) l) c.self.invariant.start c.close-named.ensures.begins))
 
 pub returns-clause-seen : goal.returns-clause-seen
@@ -38,7 +38,7 @@ returns-clause-nothing g c =
     let begins : BeginsWith log g.N.Naming.name.start = subst (λ (l : List Entry). BeginsWith log l) c.self.invariant.start c.close-named.ensures.begins in
     subst (λ (h : Housed g.row.K.Denot). HasNothing (chronicle h)) (sym c.into_house.ensures.same)
     (nothing-left g.N.Naming.name log c.args.self.id c.args.passes.items c.args.self.seats
-    (log-named (signs_of g.K.Keeper.tells g.K.Keeper.faults) g.N.Naming.name c.close-named.result c.known.ensures.name c.known.ensures.house_log begins)
+    (log-named (signs_of g.K.Keeper.tells g.K.Keeper.doubt g.K.Keeper.faults) g.N.Naming.name c.close-named.result c.known.ensures.name c.known.ensures.house_log begins)
     c.self.invariant.log c.self.invariant.nothing c.requires.numbers c.requires.passes c.requires.free c.close-named.ensures.seen
     (subst (λ (l : List Entry). All (HasItsEntries maker_of l log) c.args.passes.items) c.self.invariant.start c.close-named.ensures.mine)
     (subst (λ (k : LockView Entry). All (λ (e : Entry). maker_of e < k.seats) (beyond g.N.Naming.name.start log)) c.self.view_is
@@ -46,14 +46,14 @@ returns-clause-nothing g c =
 
 pub returns-clause-home : goal.returns-clause-home
 returns-clause-home g c =
-    home-left g.K.Keeper.tells g.K.Keeper.doubt c.into_house.result
+    home-left (signs_of g.K.Keeper.tells g.K.Keeper.doubt g.K.Keeper.faults) c.into_house.result
     (subst (λ (h : Housed g.row.K.Denot). IsHouseLog h.house_log) (sym c.into_house.ensures.same) c.known.ensures.house_log)
-    (subst (λ (h : Housed g.row.K.Denot). IsHouse g.K.Keeper.tells g.K.Keeper.doubt h) (sym c.into_house.ensures.same) c.known.ensures.house)
+    (subst (λ (h : Housed g.row.K.Denot). IsHouse (signs_of g.K.Keeper.tells g.K.Keeper.doubt g.K.Keeper.faults) h) (sym c.into_house.ensures.same) c.known.ensures.house)
     (returns-clause-nothing g c)
 
 pub returns-clause-blocks : goal.returns-clause-blocks
 returns-clause-blocks g c =
-    free-left g.K.Keeper.tells g.K.Keeper.doubt c.into_house.result
+    free-left (signs_of g.K.Keeper.tells g.K.Keeper.doubt g.K.Keeper.faults) c.into_house.result
     (subst (λ (h : Housed g.row.K.Denot). IsHouseLog h.house_log) (sym c.into_house.ensures.same) c.known.ensures.house_log)
-    (subst (λ (h : Housed g.row.K.Denot). IsHouse g.K.Keeper.tells g.K.Keeper.doubt h) (sym c.into_house.ensures.same) c.known.ensures.house)
+    (subst (λ (h : Housed g.row.K.Denot). IsHouse (signs_of g.K.Keeper.tells g.K.Keeper.doubt g.K.Keeper.faults) h) (sym c.into_house.ensures.same) c.known.ensures.house)
     (returns-clause-nothing g c)

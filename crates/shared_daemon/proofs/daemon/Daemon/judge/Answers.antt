@@ -9,7 +9,7 @@ use Rattle.shared_daemon.proofs.Answered.{judged-adds}
 use Rattle.update_log.specs.Known.{row_of, rows}
 
 pub judge-answer-requires : goal.judge-answer-requires
-judge-answer-requires g c = was-seen g.N.Naming.name c.args.pass.now c.enter-turn.result (λ i seen. IsSome (row_of (rows g.N.Naming.name.facts g.N.Naming.name.opening (past_seen seen)) c.args.entry)) c.args.self.now.id c.number.result (chronicle c.state.result.now) c.requires.pass c.enter-turn.ensures.begins (c.number.ensures ∙ c.enter-turn.ensures.same) (c.enter-turn.ensures.list ∙ ap (λ (h : Housed g.row.K.Denot). chronicle h) (sym c.state.ensures.value)) c.requires.row
+judge-answer-requires g c = was-seen g.N.Naming.name c.args.pass.now c.enter-turn.result (λ i seen. IsSome (row_of (rows g.N.Naming.name.basis (past_seen seen)) c.args.entry)) c.args.self.now.id c.number.result (chronicle c.state.result.now) c.requires.pass c.enter-turn.ensures.begins (c.number.ensures ∙ c.enter-turn.ensures.same) (c.enter-turn.ensures.list ∙ ap (λ (h : Housed g.row.K.Denot). chronicle h) (sym c.state.ensures.value)) c.requires.row
 
 pub leave-requires-clause-begun : goal.leave-requires-clause-begun
 leave-requires-clause-begun g c = (c.args.pass.now, begins-still g.N.Naming.name c.args.pass.now c.enter-turn.result c.judge-answer.new.self c.enter-turn.ensures.begins)

@@ -1,6 +1,6 @@
 use Rattle.std.proofs.Common.{List, ap, sym, ◌∙◌, subst}
+use Rattle.history_keeper.specs.Signs.{signs_of}
 use Rattle.daemon_core.specs.Housed.{Housed}
-use Rattle.daemon_core.specs.Turns.{signs_of}
 use Rattle.turn_lock.specs.Lists.{AddsAtMostOne}
 use Rattle.turn_lock.specs.Shown.{LockView, PassView}
 use Rattle.shared_daemon.specs.declared.entry.Entry.{Entry}
@@ -19,7 +19,7 @@ returns-clause-pass g c =
     let adds : AddsAtMostOne maker_of c.args.turn.number c.args.turn.seen log =
     subst (λ (h : Housed g.row.K.Denot). AddsAtMostOne maker_of c.args.turn.number c.args.turn.seen (chronicle h)) (sym c.state.ensures.value) c.requires.adds in
     still-pass g.N.Naming.name before c.args.turn c.args.self.now.id c.leave.new.pass log begins
-    (log-named (signs_of g.K.Keeper.tells g.K.Keeper.faults) g.N.Naming.name c.state.result.now c.known.ensures.name c.known.ensures.house_log
+    (log-named (signs_of g.K.Keeper.tells g.K.Keeper.doubt g.K.Keeper.faults) g.N.Naming.name c.state.result.now c.known.ensures.name c.known.ensures.house_log
     (begins-trans log c.args.turn.seen g.N.Naming.name.start (added-begins c.args.turn.number c.args.turn.seen log adds) begins.meets.log.begins))
     adds (c.leave.ensures.ready.0 ∙ ap (λ (l : LockView Entry). l.id) c.self.view_is, c.leave.ensures.ready.1)
     (c.leave.ensures.same.0 ∙ sym c.requires.turn.1) c.leave.ensures.same.1 c.leave.ensures.seen c.leave.ensures.mine

@@ -1,6 +1,0 @@
-use Rattle.claim_runs.proofs.Logs.{made-here}
-use Rattle.claim_runs.proofs.running.flash.Goals as goal
-
-pub returns-else-may_write-clause-made : goal.returns-else-may_write-clause-made
-returns-else-may_write-clause-made g c =
-    made-here ((goal.Plugin-dyn g c.args.plugin.now).steps c.args.plugin.now.1) c.args.entry c.args.claim c.skip.result c.args.pass.now c.skip.ensures

@@ -1,0 +1,12 @@
+pub mod Cases
+pub use Rattle.version_formats.specs.VersionOrder
+pub use Rattle.fw_facts.specs.Flags
+pub use Rattle.fw_facts.specs.Machines
+pub use Rattle.fw_facts.specs.Problems
+pub use Rattle.fw_facts.specs.Views
+pub use Rattle.release_catalogue.specs.Lookup
+pub use Rattle.device_list.specs.Lists
+pub use Rattle.history_keeper.specs.Histories
+pub use Rattle.update_log.specs.Holding
+pub use Rattle.update_log.specs.Known
+pub use Rattle.update_log.specs.Verdicts

@@ -1,6 +1,0 @@
-use Rattle.std.proofs.Common.{◌≡◌, ◌-◌, take}
-use Rattle.std.specs.Prelude.{sum_by}
-use Rattle.update_log.proofs.decide.without_holds.Given as goal
-
-abbrev pub invariant-loop-hold : goal.invariant-loop-hold
-invariant-loop-hold l = l.free ≡ l.initial.free - sum_by (λ x. x.blocks) (take l.hold-index l.holds)

@@ -1,7 +1,0 @@
-use Rattle.std.proofs.Common.{◌≡◌, take}
-use Rattle.update_log.specs.Known.{for_board}
-use Rattle.update_log.specs.CoreViews.{told_on}
-use Rattle.update_log.proofs.showing.show_board.Given as goal
-
-abbrev pub invariant-loop-at : goal.invariant-loop-at
-invariant-loop-at l = l.devices ≡ told_on (λ number. for_board l.board number l.seen) (take l.at l.boards) l.initial.devices

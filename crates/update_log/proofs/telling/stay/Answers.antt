@@ -1,5 +1,0 @@
-use Rattle.update_log.proofs.CoreViews.{told_none}
-use Rattle.update_log.proofs.telling.stay.Goals as goal
-
-pub returns : goal.returns
-returns c = told_none c.args.boards.now c.args.devices.now
