@@ -12,7 +12,7 @@ pub const LINE_MAX: usize = 255;
 #[derive(Clone, Copy, Debug)]
 pub struct Line {
     bytes: [u8; 255],
-    len: usize,
+    len: u8,
 }
 
 impl Model for Line {
@@ -87,7 +87,7 @@ impl Line {
         kept[..bytes.len()].copy_from_slice(bytes);
         Line {
             bytes: kept,
-            len: bytes.len(),
+            len: bytes.len() as u8,
         }
     }
 
@@ -105,7 +105,7 @@ impl Line {
     pub fn bytes(&self) -> &[u8]
         ensures { result.now ≡ self.now }
     {
-        &self.bytes[..self.len]
+        &self.bytes[..self.len as usize]
     }
 
     /// A law: its reader takes the bytes of a line, and gives them back.

@@ -12,7 +12,7 @@ pub const NAME_MAX: usize = 64;
 #[derive(Clone, Copy, Debug)]
 pub struct Name {
     bytes: [u8; 64],
-    len: usize,
+    len: u8,
 }
 
 impl Model for Name {
@@ -92,7 +92,7 @@ impl Name {
         kept[..bytes.len()].copy_from_slice(bytes);
         Name {
             bytes: kept,
-            len: bytes.len(),
+            len: bytes.len() as u8,
         }
     }
 
@@ -100,7 +100,7 @@ impl Name {
     pub fn bytes(&self) -> &[u8]
         ensures { result.now ≡ self.now }
     {
-        &self.bytes[..self.len]
+        &self.bytes[..self.len as usize]
     }
 
     /// A law: its reader takes the bytes of a name, and gives them back.

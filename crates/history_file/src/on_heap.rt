@@ -5,7 +5,7 @@ ghost use Rattle.history_keeper.specs.declared.row.Row.{Row};
 use history_keeper::{Change, Keeper, KeeperRefusal, Row};
 use std::alloc::Global;
 
-/// A keeper that lies on the heap. A house moves its keeper at each turn, so one over a file is dear to move as it is.
+/// A keeper that lies on the heap. Whoever moves a house moves its keeper, and one over a file is dear to move as it is.
 #[derive(Drop)]
 pub struct OnHeap<K: Keeper> {
     /// The keeper.

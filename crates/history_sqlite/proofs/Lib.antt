@@ -1,3 +1,4 @@
+pub mod AtHand
 pub mod Copying
 pub mod Effects
 pub mod Found

@@ -60,6 +60,10 @@ IsStrange sql read old new = (shown : List (List Value)) × Shown sql [] old new
 abbrev pub IsRead : State → State → List Row → Type 0
 IsRead old new rows = (shown : List (List Value)) × Shown select_text [] old new shown × (map Some rows ≡ map row_read shown)
 
+-- These rows are those that the select shows of the database as it is.
+abbrev pub AreAtHand : State → List Row → Type 0
+AreAtHand s rows = HasCleanDisk s → IsRead s s rows
+
 -- The select of the rows of schema 1 was run, and each that it showed stands for a row.
 abbrev pub OlderStand : State → State → Type 0
 OlderStand old new = (shown : List (List Value)) × Shown older_select_text [] old new shown × All (λ columns. IsSome (older_row_read columns)) shown

@@ -12,6 +12,7 @@ pub mod in_turn;
 pub mod lasting;
 pub mod laws;
 pub mod refusal;
+pub mod row_table;
 pub mod sql_keeper;
 pub mod statements;
 pub mod tables;

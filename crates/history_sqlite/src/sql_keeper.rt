@@ -10,7 +10,7 @@ ghost use Rattle.history_keeper.specs.Changes.{IsTimely, Suits};
 ghost use Rattle.history_keeper.specs.Keepers.{Committed, Reopened, StillSettled, StillTold, ToldWith};
 ghost use Rattle.outer_traits.specs.Faults.{Rose};
 ghost use Rattle.outer_traits.specs.Plans.{one_more};
-ghost use Rattle.history_sqlite.specs.Causes.{IsRead, IsReadAgain, FailsToLoad, FailsToMake, FailsToSettle, IsUnadopted};
+ghost use Rattle.history_sqlite.specs.Causes.{AreAtHand, IsRead, IsReadAgain, FailsToLoad, FailsToMake, FailsToSettle, IsUnadopted};
 ghost use Rattle.history_sqlite.specs.Finding.{IsAdopted};
 ghost use Rattle.history_sqlite.specs.Keeping.{planned, doubtful, after_fault};
 ghost use Rattle.history_sqlite.specs.Opened.{StartHolds};
@@ -20,7 +20,8 @@ ghost use Rattle.history_sqlite.specs.Telling.{database, IsSettled, IsUnused, Se
 use crate::database_files::open_path;
 use crate::lasting::Lasting;
 use crate::refusal::refusal_of_error;
-use crate::statements::{load_rows, make};
+use crate::row_table::RowTable;
+use crate::statements::load_rows;
 use crate::tables::{make_tables, open_tables};
 use history_keeper::{Change, Doubt, Keeper, KeeperPlan, KeeperRefusal, Row};
 use sqlite::{Connection, FileFrom, FileStore, MemStore, Start};
@@ -31,7 +32,7 @@ use std::rt::HostRuntime;
 /// A keeper whose rows stand in a table of a database. `D` is the store of its connection.
 #[derive(Drop)]
 pub struct SqlKeeper<D: Lasting> {
-    connection: Connection<D>,
+    connection: RowTable<D>,
     doubt: Option<Doubt>,
     plan: Vec<KeeperPlan>,
     calls: u64,
@@ -80,7 +81,7 @@ impl SqlKeeper<MemStore> {
         };
         match make_tables(&mut connection) {
             Ok(()) => Ok(SqlKeeper {
-                connection,
+                connection: RowTable::of(connection),
                 doubt: None,
                 plan,
                 calls: 0,
@@ -170,9 +171,9 @@ impl<D: Lasting + Drop> SqlKeeper<D> {
         let mut connection = connection;
         connection.set_step_limit(None);
         open_tables(&mut connection)?;
-        let _rows = load_rows(&mut connection, alloc)?;
+        let rows = load_rows(&mut connection, alloc)?;
         Ok(SqlKeeper {
-            connection,
+            connection: RowTable::with_rows(connection, rows),
             doubt: None,
             plan,
             calls: 0,
@@ -195,7 +196,7 @@ impl<D: Lasting + Drop> SqlKeeper<D> {
             tells: _,
             alloc: _,
         } = self;
-        connection
+        connection.into_connection()
     }
 }
 
@@ -257,7 +258,7 @@ impl<D: Lasting> SqlKeeper<D> {
         ensures clean { HasCleanDisk (database D.Store self.new) → HasCleanDisk (database D.Store self.old) }
         ensures was_open { HasCleanDisk (database D.Store self.new) → IsTrue (database D.Store self.new).is_open → IsTrue (database D.Store self.old).is_open }
     {
-        load_rows(&mut self.connection, alloc)
+        self.connection.load(alloc)
     }
 
     // Makes the change. Where it was made there is no doubt left.
@@ -274,13 +275,21 @@ impl<D: Lasting> SqlKeeper<D> {
         ensures clean { HasCleanDisk (database D.Store self.new) → HasCleanDisk (database D.Store self.old) }
         ensures was_open { HasCleanDisk (database D.Store self.new) → IsTrue (database D.Store self.new).is_open → IsTrue (database D.Store self.old).is_open }
     {
-        match make(&mut self.connection, change) {
+        match self.connection.make(change) {
             Ok(()) => {
                 self.doubt = None;
                 Ok(())
             }
             Err(refusal) => Err(refusal),
         }
+    }
+
+    // Keeps rows at hand that were just read, for the load behind it.
+    fn keep_at_hand(&mut self, rows: Vec<Row>)
+        requires { AreAtHand (database D.Store self.old) rows.items }
+        ensures { self.new ≡ self.old }
+    {
+        self.connection.keep(rows);
     }
 
     // Reads the rows once more, and then makes the doubtful change where it is to be kept.
@@ -297,7 +306,8 @@ impl<D: Lasting> SqlKeeper<D> {
         ensures was_open { HasCleanDisk (database D.Store self.new) → IsTrue (database D.Store self.new).is_open → IsTrue (database D.Store self.old).is_open }
     {
         let alloc = self.alloc;
-        let _rows = self.read(alloc)?;
+        let rows = self.read(alloc)?;
+        self.keep_at_hand(rows);
         match self.doubt {
             Some(doubt) if doubt.keep => self.write(&doubt.change),
             _ => {

@@ -40,14 +40,14 @@ module _ {X E : Type 0} where
   put_back : (seat filled : Seated X E) (x : X) → IsTurn seat → filled ≡ (seat.0, (0, Some x) ∷ []) → HasValue (own_of seat.0) x filled
   put_back seat filled x inside is = (inside.0, is ∙ ap (λ (v : SeatView E). (v, (0, Some x) ∷ [])) (ap (λ (m : Seated X E). m.0) inside.1))
 
-module _ {X E : Type 0} (entries : X → List E) (by : E → ℕ) (lock : LockId) where
+module _ {S X E : Type 0} (value_of : S → X) (entries : X → List E) (by : E → ℕ) (lock : LockId) where
   -- a turn may end once its value was put back
-  pub may_end : (seat filled : Seated X E) (x : X) (t : TurnView X E) → turn_view lock seat.0 x ≡ t → IsTurn seat → filled ≡ (seat.0, (0, Some x) ∷ []) → AddsAtMostOne by t.number t.seen (entries t.value) → MayEnd entries by filled
+  pub may_end : (seat filled : Seated S E) (x : S) (t : TurnView X E) → turn_view lock seat.0 (value_of x) ≡ t → IsTurn seat → filled ≡ (seat.0, (0, Some x) ∷ []) → AddsAtMostOne by t.number t.seen (entries t.value) → MayEnd (λ (s : S). entries (value_of s)) by filled
   may_end seat filled x t is inside full adds = let P : TurnView X E → Type 0 = λ u. AddsAtMostOne by u.number u.seen (entries u.value) in
       (own_of seat.0, x, put_back seat filled x inside full, subst P (sym is) adds)
 
   -- what its seat knows once it ended
-  pub ended : (seat filled idle : Seated X E) (x : X) (t : TurnView X E) → turn_view lock seat.0 x ≡ t → IsTurn seat → filled ≡ (seat.0, (0, Some x) ∷ []) → Ends entries filled idle
+  pub ended : (seat filled idle : Seated S E) (x : S) (t : TurnView X E) → turn_view lock seat.0 (value_of x) ≡ t → IsTurn seat → filled ≡ (seat.0, (0, Some x) ∷ []) → Ends (λ (s : S). entries (value_of s)) filled idle
       → idle ≡ (Idle (knows t.number t.base (entries t.value) (t.mine ++ beyond t.seen (entries t.value))), [])
   ended seat filled idle x t is inside full ends = ends (own_of seat.0) x (put_back seat filled x inside full)
       ∙ ap (λ (u : TurnView X E). (Idle (knows u.number u.base (entries u.value) (u.mine ++ beyond u.seen (entries u.value))), [])) is

@@ -5,6 +5,7 @@
 //! The daemon's state stands behind it.
 #![tactic(auto)]
 
+mod boxed;
 mod chronicle;
 mod closing;
 mod lock;

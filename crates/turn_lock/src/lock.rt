@@ -4,23 +4,23 @@ ghost use Rattle.std.specs.List.{range_with_len};
 ghost use Rattle.turn_lock.specs.Lists.{AddsAtMostOne, BeginsWith, beyond, made_by};
 ghost use Rattle.turn_lock.specs.Shown.{IsReady, IsFresh, IsTurnOf, HasItsEntries};
 
+use crate::boxed::Boxed;
 use crate::chronicle::Chronicle;
 use crate::closing::gather;
-use crate::opening::{OwnTable, Refused, Start, lay, make_passes};
+use crate::opening::{OwnTable, Refused, lay_boxed, make_passes};
 use crate::pass::Pass;
 use crate::steps::{VALUE, draw, pass_on, put, take};
 use crate::turn::Turn;
 use crate::waiting::{awake_beside, call_next, wait_for};
 use std::alloc::Global;
 use std::marker::Model;
-use std::snapshot::Snapshot;
 use std::sync::Wait;
 
 /// A ticket lock round one value. It can't be dropped: `close` ends it.
 /// Contracts see which lock it is, how many passes it has, and the list that its value stood for
 /// when it was made.
 pub struct TurnLock<V: Chronicle> {
-    table: OwnTable<V>,
+    table: OwnTable<Boxed<V>>,
     seats: u32,
     ahead: u32,
 }
@@ -34,7 +34,7 @@ impl<V: Chronicle> Model for TurnLock<V> {
 
     ghost use Rattle.turn_lock.specs.Fields.{lock_view, IsLock};
 
-    ghost view = { λ l. lock_view l.table.shared.table_id (V.entries l.table.shared.key.value.value) l.seats };
+    ghost view = { λ l. lock_view l.table.shared.table_id (V.entries l.table.shared.key.value.value.held.value) l.seats };
 
     ghost invariant = { λ l. IsLock l.table.shared.table_id l.table.shared.key.seats l.seats };
 }
@@ -64,11 +64,7 @@ impl<V: Chronicle> TurnLock<V> {
         let Ok(mut passes) = Vec::with_capacity(alloc, seats as usize) else {
             return Err(Refused { value });
         };
-        let start = Start {
-            seats,
-            value: Snapshot::of(&value),
-        };
-        let (table, opener) = lay(alloc, value, &start)?;
+        let (table, opener) = lay_boxed(alloc, value, seats)?;
         make_passes(&table.shared, opener, &mut passes, seats);
         let ahead = awake_beside(processors);
         Ok((
@@ -97,8 +93,8 @@ impl<V: Chronicle> TurnLock<V> {
         let mut seat = pass.lend();
         let ticket = draw(&self.table.shared, &mut seat);
         wait_for(rt, &self.table.shared, &mut seat, ticket, self.ahead);
-        let value = take(&self.table.shared, &mut seat);
-        Turn { value, seat }
+        let boxed = take(&self.table.shared, &mut seat);
+        Turn { boxed, seat }
     }
 
     /// Ends the turn that this lock gave the pass. The value may have gained one entry of the pass.
@@ -112,8 +108,8 @@ impl<V: Chronicle> TurnLock<V> {
         ensures seen { pass.new.seen ≡ V.entries turn.value }
         ensures mine { pass.new.mine ≡ turn.mine ++ beyond turn.seen (V.entries turn.value) }
     {
-        let Turn { value, mut seat } = turn;
-        put(&self.table.shared, &mut seat, value);
+        let Turn { boxed, mut seat } = turn;
+        put(&self.table.shared, &mut seat, boxed);
         let ended = pass_on(&self.table.shared, &mut seat);
         call_next(&self.table.shared, &mut seat, ended, self.ahead);
         pass.regain(seat);
@@ -137,10 +133,10 @@ impl<V: Chronicle> TurnLock<V> {
         } = self;
         let closer = gather(&table.shared, passes);
         let mut closed = table.close_with(closer);
-        let Some(value) = closed.take(VALUE) else {
+        let Some(boxed) = closed.take(VALUE) else {
             unreachable!()
         };
         closed.free();
-        value
+        boxed.into_value()
     }
 }

@@ -5,6 +5,7 @@ ghost use Rattle.turn_lock.specs.declared.view.SeatView.TheVariants.{Opening};
 ghost use Rattle.turn_lock.specs.Shown.{new_pass};
 ghost use Rattle.turn_lock.specs.Steps.{IsLaid, SitsAt};
 
+use crate::boxed::Boxed;
 use crate::chronicle::Chronicle;
 use crate::pass::Pass;
 use crate::rule::InTurn;
@@ -82,6 +83,38 @@ pub(crate) fn lay<V: Chronicle>(
         Err(refused) => Err(Refused {
             value: only_value(refused.slots),
         }),
+    }
+}
+
+/// Lays a table with the value on the heap. So many passes are to be made.
+pub(crate) fn lay_boxed<V: Chronicle>(
+    alloc: Global,
+    value: V,
+    seats: u32,
+) -> Result<(OwnTable<Boxed<V>>, LockSeat<Boxed<V>>), Refused<V>>
+    ensures table { IfOk result (λ laid. IsLaid laid.0.shared.table_id) }
+    ensures seats { IfOk result (λ laid. laid.0.shared.key.seats ≡ seats) }
+    ensures value { IfOk result (λ laid. laid.0.shared.key.value.value.held.value ≡ value) }
+    ensures seat { IfOk result (λ laid. laid.1.table_id ≡ laid.0.shared.table_id) }
+    ensures opener { IfOk result (λ laid. laid.1.me ≡ (Opening 0 (V.entries value), [])) }
+    ensures err { IfErr result (λ refused. refused.value ≡ value) }
+{
+    let boxed = match Boxed::of(alloc, value) {
+        Ok(boxed) => boxed,
+        Err(value) => return Err(Refused { value }),
+    };
+    let start = Start {
+        seats,
+        value: Snapshot::of(&boxed),
+    };
+    match lay(alloc, boxed, &start) {
+        Ok(laid) => Ok(laid),
+        Err(refused) => {
+            let Refused { value } = refused;
+            Err(Refused {
+                value: value.into_value(),
+            })
+        }
     }
 }
 

@@ -148,7 +148,7 @@ fn closed_at_once(alloc: Global, value: Counts) -> Vec<Count>
     }
 }
 
-// It passes too where one of the allocations of `new` fails: with `--fail-alloc` 2 to 5.
+// It passes too where one of the allocations of `new` fails: with `--fail-alloc` 2 to 6.
 #[test]
 fn one_seat_and_no_turn_closes_with_the_value(rt: HostRuntime) -> Result<(), Fail> {
     let mut value = no_counts(rt.alloc());

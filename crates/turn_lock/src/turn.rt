@@ -3,6 +3,7 @@ ghost use Rattle.std.specs.Prelude.{◌≡◌};
 ghost use Rattle.std.specs.Borrow.{Lends, sem};
 ghost use Rattle.turn_lock.specs.contracts.turn.Turn.{the_row};
 
+use crate::boxed::Boxed;
 use crate::chronicle::Chronicle;
 use crate::steps::LockSeat;
 use std::marker::Model;
@@ -11,8 +12,8 @@ use std::marker::Model;
 /// Contracts see the number and the own entries of its pass, the list as the turn began, and the
 /// value.
 pub struct Turn<V: Chronicle> {
-    pub(crate) value: V,
-    pub(crate) seat: LockSeat<V>,
+    pub(crate) boxed: Boxed<V>,
+    pub(crate) seat: LockSeat<Boxed<V>>,
 }
 
 impl<V: Chronicle> Model for Turn<V> {
@@ -24,7 +25,7 @@ impl<V: Chronicle> Model for Turn<V> {
 
     ghost use Rattle.turn_lock.specs.Fields.{turn_view, IsTurn};
 
-    ghost view = { λ t. turn_view t.seat.table_id t.seat.me.0 t.value };
+    ghost view = { λ t. turn_view t.seat.table_id t.seat.me.0 t.boxed.held.value };
 
     ghost invariant = { λ t. IsTurn t.seat.me };
 }
@@ -35,6 +36,6 @@ impl<V: Chronicle> Turn<V> {
         ensures* writes_back { sem 𝓛 (Lends (the_row V.row V.Entry.row V.Chronicle) V.row self.entry result (λ w. record self.old { value = w })) }
         ensures value { result.now ≡ self.old.value }
     {
-        &mut self.value
+        self.boxed.held.as_mut()
     }
 }

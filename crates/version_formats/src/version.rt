@@ -13,7 +13,7 @@ pub const VERSION_MAX: usize = 64;
 #[derive(Clone, Copy, Debug)]
 pub struct Version {
     bytes: [u8; 64],
-    len: usize,
+    len: u8,
 }
 
 impl Model for Version {
@@ -94,7 +94,7 @@ impl Version {
         kept[..bytes.len()].copy_from_slice(bytes);
         Version {
             bytes: kept,
-            len: bytes.len(),
+            len: bytes.len() as u8,
         }
     }
 
@@ -102,7 +102,7 @@ impl Version {
     pub fn bytes(&self) -> &[u8]
         ensures { result.now ≡ self.now }
     {
-        &self.bytes[..self.len]
+        &self.bytes[..self.len as usize]
     }
 
     /// A law: its reader takes the bytes of a version, and gives them back.

@@ -13,14 +13,14 @@ made old new empty fresh opens = (opens (memory_is_clean new)).1.1 (record { is_
 
 pub invariant_of-result : goal.invariant_of-result
 invariant_of-result c =
-    let new = c.make_tables.new.connection in (tt, λ so clean is_open. ([], made c.in-Ok.connection new c.in-Ok.ensures.empty c.in-Ok.ensures.fresh c.in-Ok-make_tables.ensures.opens, tt))
+    let new = c.make_tables.new.connection in rw c.of.ensures (tt, λ so clean is_open. ([], made c.in-Ok.connection new c.in-Ok.ensures.empty c.in-Ok.ensures.fresh c.in-Ok-make_tables.ensures.opens, tt))
 
 pub returns-in-Ok-make_tables : goal.returns-in-Ok-make_tables
 returns-in-Ok-make_tables c =
     let new = c.make_tables.new.connection in
     let holds = made c.in-Ok.connection new c.in-Ok.ensures.empty c.in-Ok.ensures.fresh c.in-Ok-make_tables.ensures.opens in
-    record {
+    rw c.of.ensures (record {
       unused = record { may_tell = refl; no_doubt = refl; plan_is = refl; uncalled = refl; faultless = refl };
       tells = record { may = refl; store_is = tt; clean = memory_is_clean new; holds = holds };
       no_others = λ all t. same_rows (state over_memory new) all [] t.holds holds;
-    }
+    })

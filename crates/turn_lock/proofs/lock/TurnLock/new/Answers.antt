@@ -1,6 +1,5 @@
 use Rattle.std.proofs.Common.{◌≡◌, ◌∙◌, List, All, map, ap, subst}
 use Rattle.std.proofs.lemmas.List.Elements.{All-same}
-use Rattle.turn_lock.specs.declared.opening.Start.{Start}
 use Rattle.turn_lock.specs.Shown.{PassView, IsReady, IsFresh}
 use Rattle.turn_lock.proofs.Fields.{numbers-new_passes, new_passes-ready, new_passes-fresh}
 use Rattle.turn_lock.proofs.lock.TurnLock.new.Goals as goal
@@ -14,7 +13,7 @@ returns-clause-ready g c = All-same (IsReady c.in_ok-table.table.shared.table_id
 pub returns-clause-fresh : goal.returns-clause-fresh
 returns-clause-fresh g c = let e = g.V.Chronicle.entries in
     let E : Type 0 = g.row.V-Entry.Denot in
-    let start = e c.in_ok-table.table.shared.key.value.value in
-    let same : start ≡ e c.args.value = ap (λ (s : Start g.row.V.Denot). e s.value.value) c.in_ok-table.ensures.table.1 ∙ ap e c.of.ensures in
+    let start = e c.in_ok-table.table.shared.key.value.value.held.value in
+    let same : start ≡ e c.args.value = ap e c.in_ok-table.ensures.value in
     let P : List E → Type 0 = λ list. All (IsFresh list) c.make_passes.new.passes.items in
     subst P same (All-same (IsFresh start) _ _ c.make_passes.ensures.passes (new_passes-fresh _ _ _))
